@@ -20,6 +20,15 @@ def files():
             yield path, open(path).read()
 
 
+KEYWORDS = set("as break else false fn for if in let loop match move mut ref return self true while".split())
+
+
+def clauses_out(text):
+    """the text without the clauses of contracts"""
+    text = re.sub(r"^    (requires|ensures)( \w+)? \{(?:[^{}\n]|\{[^{}]*\})*\}\n", "", text, flags=re.M)
+    return re.sub(r"^    (requires|ensures)( \w+)? \{.*?\}\n(?=\{|    requires|    ensures)", "", text, flags=re.M | re.S)
+
+
 def code(text):
     return re.sub(r"//[^\n]*", "", text)
 
@@ -76,8 +85,28 @@ def parameters():
                 yield f"{path}: {m.group(1)}"
 
 
+def twins():
+    """functions that are another one of the repository but for names and numbers"""
+    seen = {}
+    for path, text in files():
+        for m in re.finditer(r"\bfn (\w+)[^{]*?\n\{\n(.*?)\n\}", clauses_out(code(text)), re.S):
+            order = {}
+            shape = []
+            for token in re.findall(r"[A-Za-z_]\w*|\d\w*|\S", m.group(2)):
+                if token[0].isdigit():
+                    token = "0"
+                elif (token[0].isalpha() or token[0] == "_") and token not in KEYWORDS:
+                    token = str(order.setdefault(token, len(order)))
+                shape.append(token)
+            if len(shape) >= 24:
+                seen.setdefault(tuple(shape), []).append(f"{path}: {m.group(1)}")
+    for group in seen.values():
+        for place in group[1:]:
+            yield f"{place} (as {group[0]})"
+
+
 def main():
-    for name in (shaped, flagged, numbered, counted, whiles, parameters):
+    for name in (shaped, flagged, numbered, twins, counted, whiles, parameters):
         places = list(name())
         print(f"{len(places):4} {name.__doc__}")
         if "-v" in sys.argv:

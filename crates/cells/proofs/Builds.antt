@@ -20,10 +20,10 @@ use Rattle.model.specs.Heap.{Cell, item, head, header_of, cell_kind, cell_payloa
 use Rattle.value.specs.Links.{Written}
 use Rattle.value.proofs.Coding.{and_left, and_right, cell_exact}
 use Rattle.value.proofs.Stores.{length_vals, vals_at, vals_upward, get_d_values, kind_same, kind_other, payload_same, payload_other, stored_words, written_length, taken}
-use Rattle.cells.specs.declared.Built.TheVariants.{Taken, Bad}
 use Rattle.cells.specs.Links.{elements_of, Held, TopPre, Besides, CopyPost, BuildPost}
 use Rattle.cells.proofs.Order.{and_both, Every, nil, cons, every_at, Whole, list_of, struct_of}
 use Rattle.cells.proofs.Stands.{length_heap, header_is, header_room}
+use Rattle.std.specs.Prelude.{Err, Ok}
 
 -- ---- the elements
 
@@ -130,11 +130,8 @@ module _ (H : List Cell) (us : List Value) (n : ℕ) where
           let o : drop i us ≡ u ∷ drop (i + 1) us = drop-cons us i (v.Boolean false) (omega arith) ∙ ap (λ (m : ℕ). get_or us i (v.Boolean false) ∷ drop m us) z ∙ rw (← eu) in
           rw (o, ← ex) at r.means
 
-      pub depth_deeper : d < x → (d' : ℕ) → d' ≡ x → Depth H us n d' (i + 1)
-      depth_deeper l d' q = record { inside = omega arith; means = let m = depth_next in let y = deepest H (drop (i + 1) us) in omega arith }
-
-      pub depth_same : x ≤ d → (d' : ℕ) → d' ≡ d → Depth H us n d' (i + 1)
-      depth_same l d' q = record { inside = omega arith; means = let m = depth_next in let y = deepest H (drop (i + 1) us) in omega arith }
+      pub depth_more : (d' : ℕ) → d' ≡ max d x → Depth H us n d' (i + 1)
+      depth_more d' q = record { inside = omega arith; means = let m = depth_next in let y = deepest H (drop (i + 1) us) in omega arith }
 
 pub held_at : (list : Bool) (s : List ℕ) (sp n : ℕ) (w : List ℕ) (used : ℕ) → TopPre s sp n w used → (i : ℕ) → i < n
     → (u : Value) → u ≡ get_or (elements_of list n (vals sp s)) i (v.Boolean false) → Held (heap_of used w) used u
@@ -244,7 +241,7 @@ module _ (us : List Value) (from n : ℕ) (w₀ w : List ℕ) (i : ℕ) (c : Cop
 -- ---- the whole
 
 module _ (list : Bool) (s : List ℕ) (sp n k : ℕ) (w : List ℕ) (used : ℕ) (pre : TopPre s sp n w used) (d : ℕ) (ed : d ≡ deepest (heap_of used w) (elements_of list n (vals sp s))) where
-  pub too_deep : 64 ≤ d → BuildPost list s sp n k w used (Bad f.TooDeep) w
+  pub too_deep : 64 ≤ d → BuildPost list s sp n k w used (Err f.TooDeep) w
   unfolding build_of
   too_deep h = record { means = rw (lt-ltb 64 (suc (deepest (heap_of used w) (elements_of list n (vals sp s)))) (omega arith)); after = refl }
 
@@ -252,7 +249,7 @@ module _ (list : Bool) (s : List ℕ) (sp n k : ℕ) (w : List ℕ) (used : ℕ)
   need_is = let x = length_heap used w in let y = length_elements list sp n s pre.enough in omega arith
 
   module _ (h : d < 64) (r : ℕ) (er : r ≡ places 2 w) where
-    pub cells_full : r < used + n + 1 → BuildPost list s sp n k w used (Bad f.CellsFull) w
+    pub cells_full : r < used + n + 1 → BuildPost list s sp n k w used (Err f.CellsFull) w
     unfolding build_of
     cells_full l = record {
       means =
@@ -273,7 +270,7 @@ module _ (list : Bool) (s : List ℕ) (sp n k : ℕ) (w : List ℕ) (used : ℕ)
         room_copy = let x = (room_is w r er).0 in let y = written_length q in omega arith
 
         pub built_is : (w2 : List ℕ) → CopyPost (elements_of list n (vals sp s)) (used + 1) n w1 w2 → length w2 ≡ length w1
-            → BuildPost list s sp n k w used (Taken (used + n + 1)) w2
+            → BuildPost list s sp n k w used (Ok (used + n + 1)) w2
         unfolding build_of block_of
         built_is w2 c e =
             let y : used + 1 + n ≡ used + n + 1 = omega arith in

@@ -8,12 +8,12 @@ use lib.ListN.{length}
 use Rattle.model.specs.declared.Value.{Value}
 use Rattle.model.specs.declared.Header.{Header}
 use Rattle.model.specs.declared.Fault.TheVariants as f
-use Rattle.model.specs.declared.Found.TheVariants as g
 use Rattle.model.specs.Values.{payload_at, value_at}
 use Rattle.model.specs.Heap.{header_of, heap_of, head_in, field_of}
 use Rattle.cells.specs.Links.{FieldPre}
 use Rattle.cells.proofs.Order.{Whole, struct_of, good_of}
 use Rattle.cells.proofs.Stands.{item_is, header_is, header_room}
+use Rattle.std.specs.Prelude.{Err, Ok}
 
 module _ (w : List ℕ) (used p : ℕ) (pre : FieldPre w used p) where
   here : Whole (heap_of used w) p used
@@ -26,7 +26,7 @@ module _ (w : List ℕ) (used p : ℕ) (pre : FieldPre w used p) where
     head_p : head_in (heap_of used w) p ≡ h
     head_p = header_is w used p here ∙ sym he
 
-    pub field_none : h.count ≤ a → g.Bad f.OutOfRange ≡ field_of (heap_of used w) p a
+    pub field_none : h.count ≤ a → Err f.OutOfRange ≡ field_of (heap_of used w) p a
     unfolding field_of
     field_none l = rw (head_p, le-ltb _ _ l)
 
@@ -34,7 +34,7 @@ module _ (w : List ℕ) (used p : ℕ) (pre : FieldPre w used p) where
       pub field_room : 2 * (p + 1 + a) + 2 ≤ length w
       field_room = let y = pre.room in let z : suc p + h.count ≤ used = rw head_p at here.ends in omega arith
 
-      pub field_got : (u : Value) → u ≡ value_at w (p + 1 + a) → g.Got u ≡ field_of (heap_of used w) p a
+      pub field_got : (u : Value) → u ≡ value_at w (p + 1 + a) → Ok u ≡ field_of (heap_of used w) p a
       unfolding field_of
       field_got u e =
           let z : suc p + h.count ≤ used = rw head_p at here.ends in

@@ -13,7 +13,6 @@ use Rattle.model.specs.declared.Value.{Value}
 use Rattle.model.specs.declared.Value.TheVariants as v
 use Rattle.model.specs.declared.Header.{Header}
 use Rattle.model.specs.declared.Fault.TheVariants as f
-use Rattle.model.specs.declared.Found.TheVariants as g
 use Rattle.model.specs.Heap.{Cell, item, head, is_head, item_of, head_of, cell_in, item_in, head_in, items, elements_in, depth_in, deepest, block_of, built, unbuilt, build_of, placed_below, block_ok, blocks_from, heap_ok}
 use Rattle.value.proofs.Coding.{and_left, and_right}
 use Rattle.cells.proofs.Order.{Every, nil, cons, every_map, every_at, Whole, Placed, list_of, list_number, list_to, struct_of, struct_to, placed_more, Block, block_of_lem, block_to, inner}

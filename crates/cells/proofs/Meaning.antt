@@ -1,5 +1,5 @@
 -- What values mean: equality of values is equality of their trees, cells added above change no meaning, and what a build and a field mean.
-use Rattle.std.specs.Prelude.{if◌then◌else◌}
+use Rattle.std.specs.Prelude.{if◌then◌else◌, Err, Ok}
 use mathlib.Core.Path.{◌≡◌, refl, sym, ap, ◌∙◌}
 use mathlib.Core.Bool.{Bool, true, false, ◌&&◌}
 use mathlib.Core.List.{List, [], ◌∷◌, ◌++◌}
@@ -12,7 +12,6 @@ use Rattle.model.specs.declared.Value.{Value}
 use Rattle.model.specs.declared.Value.TheVariants as v
 use Rattle.model.specs.declared.Header.{Header}
 use Rattle.model.specs.declared.Fault.{Fault}
-use Rattle.model.specs.declared.Found.TheVariants as g
 use Rattle.model.specs.Values.{if_scalar, if_boolean, if_string, if_reference, if_list, if_struct}
 use Rattle.model.specs.Heap.{Cell, item_in, head_in, items, elements_in, field_of, depth_in, block_of, built, build_of, heap_ok}
 use Rattle.model.specs.Equality.{Same, said, same_elements, same_blocks, same_pair, same_to, same_of}
@@ -291,16 +290,16 @@ at_items m H zero i a h = absurd (let z : ⊥ = omega arith in z)
 at_items m H (suc n) i zero h = let z : i + 0 ≡ i = omega arith in rw z here
 at_items m H (suc n) i (suc a) h = let z : i + suc a ≡ suc i + a = omega arith in rw z (later (at_items m H n (suc i) a (omega arith)))
 
-pub got : (b : Bool) (x y : Value) (n : Fault) → (if b then g.Got x else g.Bad n) ≡ g.Got y → (b ≡ true) × (x ≡ y)
+pub got : (b : Bool) (x y : Value) (n : Fault) → (if b then Ok x else Err n) ≡ Ok y → (b ≡ true) × (x ≡ y)
 got true x y n e = (refl, cc)
 got false x y n e = absurd (let z : ◌≡◌ {A = ℕ} 0 1 = cc in omega arith)
 
-field_at : (H : List Cell) (p a : ℕ) (u : Value) → field_of H p a ≡ g.Got u → (a < (head_in H p).count) × (item_in H (suc p + a) ≡ u)
+field_at : (H : List Cell) (p a : ℕ) (u : Value) → field_of H p a ≡ Ok u → (a < (head_in H p).count) × (item_in H (suc p + a) ≡ u)
 unfolding field_of
 field_at H p a u e = let z = got (ltb a (head_in H p).count) (item_in H (suc p + a)) u _ e in (ltb-true _ _ z.0, z.1)
 
 pub field_is : (t : List ℕ) (H : List Cell) → heap_ok (length t) H ≡ true → (p a : ℕ) → Placed (length t) H (length H) (v.StructInstance p)
-    → (u : Value) → field_of H p a ≡ g.Got u → (k : ℕ) (us : Trees) → meaning t H (v.StructInstance p) ≡ struct k us → At us a (meaning t H u)
+    → (u : Value) → field_of H p a ≡ Ok u → (k : ℕ) (us : Trees) → meaning t H (v.StructInstance p) ≡ struct k us → At us a (meaning t H u)
 unfolding tree_of elements_in
 field_is t H e p a f u q k us s =
     let z = field_at H p a u q in

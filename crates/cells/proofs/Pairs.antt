@@ -1,6 +1,6 @@
 -- Two values by themselves: the arms of the comparison.
-use mathlib.Core.Path.{◌≡◌, refl, sym, subst}
-use mathlib.Core.Bool.{Bool, true, false, beq, true≢false}
+use mathlib.Core.Path.{◌≡◌, refl, subst}
+use mathlib.Core.Bool.{Bool, true, false, beq}
 use mathlib.Core.List.{List, [], ◌∷◌}
 use Prim.Native.Nat.{ℕ, ◌+◌, ◌≤◌}
 use borrow.Author.Tests.{leb-true}
@@ -18,11 +18,6 @@ use Rattle.model.specs.Equality.{said, same_bytes, same_pair}
 use Rattle.value.proofs.Operands.{no_scalar, no_boolean}
 use Rattle.cells.specs.declared.Pair.TheVariants.{Said, Blocks}
 use Rattle.cells.specs.Links.{Inside, lists, structs, Compared}
-
-pub same_bool_true : (x y : Bool) → x ≡ true → y ≡ beq x y
-same_bool_true true true e = refl
-same_bool_true true false e = refl
-same_bool_true false y e = absurd (true≢false (sym e))
 
 -- a value of another kind
 module _ {A : Type 0} where

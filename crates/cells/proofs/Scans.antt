@@ -8,6 +8,9 @@ use native.Mathlib.Omega.{arith}
 use borrow.Author.Tests.{not-true, not-false, eq-eqb, ne_eqb, le-leb, lt-leb, ltb-true, ltb-false, eqb-true, eqb-false}
 use lib.Dec.{eqb, leb, ltb}
 use lib.ListN.{length}
+use Rattle.std.specs.Bool.{MatchBool}
+use Rattle.std.specs.List.{AllWithin, HoldsAt, range_with_len}
+use Rattle.std.proofs.lemmas.List.FromFn.{length-range_with_len, get_or-range_with_len}
 use denote.Enum.Declared.{tag_of}
 use types.Run.{OneOf, miss}
 use Rattle.model.specs.contracts.Value.{the_type}
@@ -241,16 +244,8 @@ module _ (t : ℕ) (w : List ℕ) (used p : ℕ) where
                       let s : depth_in H (item_in H (suc p + i)) ≡ m = ap (λ (r : Value). depth_in H r) x_is ∙ sym (em ∙ depth_cut t w used p (let r = within in omega arith) x good_place) in
                       rw (q, s) at u.deep
 
-                  pub walk_deeper : d < m → (d' : ℕ) → d' ≡ m → Walk t (heap_of used w) p h.count d' (i + 1)
-                  walk_deeper q d' e' = record {
-                    inside = omega arith;
-                    all = all_next;
-                    deep = let r = deep_next in let s = deepest (heap_of used w)
-                        (items (h.count - (i + 1)) (suc p + (i + 1)) (heap_of used w)) in omega arith;
-                  }
-
-                  pub walk_same : m ≤ d → (d' : ℕ) → d' ≡ d → Walk t (heap_of used w) p h.count d' (i + 1)
-                  walk_same q d' e' = record {
+                  pub walk_more : (d' : ℕ) → d' ≡ max d m → Walk t (heap_of used w) p h.count d' (i + 1)
+                  walk_more d' e' = record {
                     inside = omega arith;
                     all = all_next;
                     deep = let r = deep_next in let s = deepest (heap_of used w)
@@ -289,36 +284,32 @@ module _ (t : ℕ) (w : List ℕ) (used p : ℕ) where
 
 -- ---- exact words
 
-pub record Exact (used : ℕ) (w : List ℕ) (i : ℕ) : Type 0 where
-  pub inside : i ≤ used
-  pub means : exact_cells used 0 w ≡ exact_cells (used - i) i w
+module _ (w : List ℕ) where
+  abbrev pub exact_at : ℕ → Bool
+  exact_at i = exact_cell (kind_at w i) (payload_at w i)
 
-module _ (used : ℕ) (w : List ℕ) where
-  pub exact_start : Exact used w 0
-  exact_start = let z : used - 0 ≡ used = omega arith in record { inside = omega arith; means = rw z }
-
-  exact_one : (n i : ℕ) → 0 < n → exact_cells n i w ≡ exact_cell (kind_at w i) (payload_at w i) && exact_cells (n - 1) (suc i) w
+  all_exact : (n i : ℕ) → ((k : ℕ) → k < n → exact_at (i + k) ≡ true) → exact_cells n i w ≡ true
   unfolding exact_cells
-  exact_one zero i h = absurd (let z : ⊥ = omega arith in z)
-  exact_one (suc n) i h = let z : suc n - 1 ≡ n = omega arith in rw z
+  all_exact zero i h = refl
+  all_exact (suc n) i h =
+      let first : exact_at i ≡ true = (let z : i + 0 ≡ i = omega arith in rw z at (h 0 (omega arith))) in
+      rw (first, all_exact n (suc i) (λ k l. let z : i + suc k ≡ suc i + k = omega arith in rw z at (h (suc k) (omega arith)))) refl
 
-  module _ (i : ℕ) (r : Exact used w i) where
-    pub exact_end : used ≤ i → true ≡ exact_cells used 0 w
-    unfolding exact_cells
-    exact_end h = sym (r.means ∙ (let z : used - i ≡ 0 = omega arith in rw z))
+  one_broken : (n i k : ℕ) → k < n → exact_at (i + k) ≡ false → exact_cells n i w ≡ false
+  unfolding exact_cells
+  one_broken zero i k l e = absurd (omega (arith, l))
+  one_broken (suc n) i zero l e = let z : i + 0 ≡ i = omega arith in rw (rw z at e) refl
+  one_broken (suc n) i (suc k) l e =
+      let z : i + suc k ≡ suc i + k = omega arith in
+      rw (one_broken n (suc i) k (omega arith) (rw z at e)) (and-false (exact_at i))
 
-    module _ (h : i < used) (z : Bool) (e : z ≡ exact_cell (kind_at w i) (payload_at w i)) where
-      exact_step : exact_cells used 0 w ≡ z && exact_cells (used - (i + 1)) (i + 1) w
-      exact_step =
-          let a : used - i - 1 ≡ used - (i + 1) = omega arith in
-          let b : suc i ≡ i + 1 = omega arith in
-          r.means ∙ (rw (a, b, ← e) at (exact_one (used - i) i (omega arith)))
-
-      pub exact_no : not z ≡ true → false ≡ exact_cells used 0 w
-      exact_no n = sym (exact_step ∙ rw (not-true z n))
-
-      pub exact_next : not z ≡ false → Exact used w (i + 1)
-      exact_next n = record { inside = omega arith; means = exact_step ∙ rw (not-false z n) }
+  pub exact_judged : (n : ℕ) (r : Bool)
+      → MatchBool r (AllWithin (λ i. exact_at i ≡ true) (range_with_len 0 n) 0 (length (range_with_len 0 n))) ((k : ℕ) × (k < length (range_with_len 0 n)) × HoldsAt (λ i. exact_at i ≡ false) (range_with_len 0 n) k)
+      → r ≡ exact_cells n 0 w
+  exact_judged n true m = sym (all_exact n 0 (λ k l. rw (get_or-range_with_len 0 n k 0 l) at (m k 0 (omega arith) (omega (arith, length-range_with_len 0 n)))))
+  exact_judged n false m =
+      let l : m.0 < n = omega (arith, m.1, length-range_with_len 0 n) in
+      sym (one_broken n 0 m.0 l (rw (get_or-range_with_len 0 n m.0 0 l) at (m.2 0)))
 
 -- ---- block by block
 

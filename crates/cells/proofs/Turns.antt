@@ -1,5 +1,5 @@
 -- Equality of two lists or two structs: the loop over the elements and its laws.
-use Rattle.std.specs.Prelude.{if◌then◌else◌}
+use Rattle.std.specs.Prelude.{if◌then◌else◌, None, Option, Some}
 use mathlib.Core.Path.{◌≡◌, refl, sym, ap, ◌∙◌}
 use mathlib.Core.Bool.{Bool, true, false, ◌&&◌}
 use mathlib.Core.List.{List}
@@ -14,8 +14,6 @@ use Rattle.model.specs.declared.Header.{Header}
 use Rattle.model.specs.Values.{payload_at, value_at, if_list, if_struct}
 use Rattle.model.specs.Heap.{Cell, header_of, heap_of, item_in, head_in, items, elements_in}
 use Rattle.model.specs.Equality.{Same, same, said, and_next, same_elements, same_blocks, same_pair, same_of}
-use Rattle.cells.specs.declared.Verdict.{Verdict}
-use Rattle.cells.specs.declared.Verdict.TheVariants.{Done, Out}
 use Rattle.cells.specs.declared.Pair.{Pair}
 use Rattle.cells.specs.declared.Pair.TheVariants.{Said, Blocks}
 use Rattle.cells.specs.Links.{verdict, EqualPre, Inside, Alike, lists, structs, Compared}
@@ -25,20 +23,22 @@ use Rattle.cells.proofs.Stands.{length_heap, item_is, header_is, header_room}
 
 -- ---- a pair of elements, with the units that are left
 
-pub said_verdict : (b : Bool) (l : ℕ) → verdict l (said b) ≡ Done b l
+pub said_verdict : (b : Bool) (l : ℕ) → verdict l (said b) ≡ Some (b, l)
 unfolding verdict
-said_verdict b l = rw (le-leb 0 l (omega arith)) (ap (Done b) (omega arith))
+said_verdict b l = rw (le-leb 0 l (omega arith)) (ap (λ (k : ℕ). Some (b, k)) (omega arith))
 
-none_left : (o m : Same) → verdict 0 (and_next o m) ≡ Out
+none_left : (o m : Same) → verdict 0 (and_next o m) ≡ None
 unfolding verdict and_next
 none_left (same false k) m = rw (lt-leb (suc k) 0 (omega arith))
 none_left (same true k) (same b n) = rw (lt-leb (suc k + n) 0 (omega arith))
 
-done_is : (l k : ℕ) (b c : Bool) (n : ℕ) (z : Bool) → leb k l ≡ z → (if z then Done b (l - k) else Out) ≡ Done c n → (k ≤ l) × (b ≡ c) × (l - k ≡ n)
-done_is l k b c n true e h = (leb-true _ _ e, cc, cc)
+done_is : (l k : ℕ) (b c : Bool) (n : ℕ) (z : Bool) → leb k l ≡ z → ◌≡◌ {A = Option (Bool × ℕ)} (if z then Some (b, l - k) else None) (Some (c, n)) → (k ≤ l) × (b ≡ c) × (l - k ≡ n)
+done_is l k b c n true e h =
+    let q : ◌≡◌ {A = Bool × ℕ} (b, l - k) (c, n) = cc in
+    (leb-true _ _ e, ap (λ (p : Bool × ℕ). p.0) q, ap (λ (p : Bool × ℕ). p.1) q)
 done_is l k b c n false e h = absurd (let z : ◌≡◌ {A = ℕ} 0 1 = cc in omega arith)
 
-out_is : (l k : ℕ) (b z : Bool) → leb k l ≡ z → (if z then Done b (l - k) else Out) ≡ Out → l < k
+out_is : (l k : ℕ) (b z : Bool) → leb k l ≡ z → ◌≡◌ {A = Option (Bool × ℕ)} (if z then Some (b, l - k) else None) None → l < k
 out_is l k b true e h = absurd (let z : ◌≡◌ {A = ℕ} 0 1 = cc in omega arith)
 out_is l k b false e h = leb-false _ _ e
 
@@ -51,24 +51,24 @@ on_alike k l n (same b j) h e =
     let q : suc l - (suc k + j) ≡ n - j = omega arith in
     rw (p, q)
 
-on_unlike : (k l n : ℕ) (m : Same) → k ≤ l → l - k ≡ n → verdict (suc l) (and_next (same false k) m) ≡ Done false n
+on_unlike : (k l n : ℕ) (m : Same) → k ≤ l → l - k ≡ n → verdict (suc l) (and_next (same false k) m) ≡ Some (false, n)
 unfolding verdict and_next
 on_unlike k l n m h e = let q : suc l - suc k ≡ n = omega arith in rw (le-leb (suc k) (suc l) (omega arith), q)
 
-on_out : (b : Bool) (k l : ℕ) (m : Same) → l < k → verdict (suc l) (and_next (same b k) m) ≡ Out
+on_out : (b : Bool) (k l : ℕ) (m : Same) → l < k → verdict (suc l) (and_next (same b k) m) ≡ None
 unfolding verdict and_next
 on_out false k l m h = rw (lt-leb (suc k) (suc l) (omega arith))
 on_out true k l (same b j) h = rw (lt-leb (suc k + j) (suc l) (omega arith))
 
-alike_then : (o m : Same) (l n : ℕ) → verdict l o ≡ Done true n → verdict (suc l) (and_next o m) ≡ verdict n m
+alike_then : (o m : Same) (l n : ℕ) → verdict l o ≡ Some (true, n) → verdict (suc l) (and_next o m) ≡ verdict n m
 unfolding verdict
 alike_then (same b k) m l n h = let d = done_is l k b true n (leb k l) refl h in rw d.1 (on_alike k l n m d.0 d.2)
 
-unlike_then : (o m : Same) (l n : ℕ) → verdict l o ≡ Done false n → verdict (suc l) (and_next o m) ≡ Done false n
+unlike_then : (o m : Same) (l n : ℕ) → verdict l o ≡ Some (false, n) → verdict (suc l) (and_next o m) ≡ Some (false, n)
 unfolding verdict
 unlike_then (same b k) m l n h = let d = done_is l k b false n (leb k l) refl h in rw d.1 (on_unlike k l n m d.0 d.2)
 
-out_then : (o m : Same) (l : ℕ) → verdict l o ≡ Out → verdict (suc l) (and_next o m) ≡ Out
+out_then : (o m : Same) (l : ℕ) → verdict l o ≡ None → verdict (suc l) (and_next o m) ≡ None
 unfolding verdict
 out_then (same b k) m l h = on_out b k l m (out_is l k b (leb k l) refl h)
 
@@ -127,7 +127,7 @@ compared : (t : List ℕ) (a b : Value) (r : Pair) → Compared t a b r → (r' 
 compared t a b r c r' e = rw e at c
 
 pub said_is : (t w : List ℕ) (used : ℕ) (a b : Value) → EqualPre t w used a b → (l : ℕ) (r : Pair) → Compared t a b r → (x : Bool) → r ≡ Said x
-    → Done x l ≡ verdict l (same_of t (heap_of used w) a b)
+    → Some (x, l) ≡ verdict l (same_of t (heap_of used w) a b)
 said_is t w used a b pre l r c x e = sym (ap (verdict l) (opened t w used a b pre ∙ compared t a b r c (Said x) e _ _) ∙ said_verdict x l)
 
 -- ---- the loop
@@ -179,13 +179,13 @@ module _ (t w : List ℕ) (used : ℕ) (a b : Value) (pre : EqualPre t w used a 
     same_is = opened t w used a b pre ∙ alike_pair (λ x y. same_of t (heap_of used w) x y) t (heap_of used w) al ∙ rw (head_p, head_q)
 
     module _ (l : ℕ) where
-      unlike : eqb h.count k.count && eqb h.number k.number ≡ false → Done false l ≡ verdict l (same_of t (heap_of used w) a b)
+      unlike : eqb h.count k.count && eqb h.number k.number ≡ false → Some (false, l) ≡ verdict l (same_of t (heap_of used w) a b)
       unlike e = rw (same_is, e) (sym (said_verdict false l))
 
-      pub counts_differ : (h.count ≡ k.count → ⊥) → Done false l ≡ verdict l (same_of t (heap_of used w) a b)
+      pub counts_differ : (h.count ≡ k.count → ⊥) → Some (false, l) ≡ verdict l (same_of t (heap_of used w) a b)
       counts_differ n = unlike (rw (ne_eqb _ _ n))
 
-      pub numbers_differ : h.count ≡ k.count → (h.number ≡ k.number → ⊥) → Done false l ≡ verdict l (same_of t (heap_of used w) a b)
+      pub numbers_differ : h.count ≡ k.count → (h.number ≡ k.number → ⊥) → Some (false, l) ≡ verdict l (same_of t (heap_of used w) a b)
       numbers_differ e n = unlike (rw (eq-eqb _ _ e, ne_eqb _ _ n))
 
       pub turn_start : Turn t (heap_of used w) p q h.count l l 0
@@ -198,14 +198,14 @@ module _ (t w : List ℕ) (used : ℕ) (a b : Value) (pre : EqualPre t w used a 
 
     module _ (ec : h.count ≡ k.count) (en : h.number ≡ k.number) (l₀ l i : ℕ) (u : Turn t (heap_of used w) p q h.count l₀ l i) where
       -- an answer that is the verdict on those that are left
-      answer : (r' : Verdict)
+      answer : (r' : Option (Bool × ℕ))
           → verdict l (same_elements (λ x y. same_of t (heap_of used w) x y) (items (h.count - i) (suc p + i) (heap_of used w)) (items (h.count - i) (suc q + i) (heap_of used w))) ≡ r'
           → r' ≡ verdict l₀ (same_of t (heap_of used w) a b)
       answer r' e = rw (same_is, eq-eqb _ _ ec, eq-eqb _ _ en, ← ec) (sym (u.means ∙ e))
 
-      pub finish : h.count ≤ i → Done true l ≡ verdict l₀ (same_of t (heap_of used w) a b)
+      pub finish : h.count ≤ i → Some (true, l) ≡ verdict l₀ (same_of t (heap_of used w) a b)
       unfolding same_elements items
-      finish z = answer (Done true l) (let y : h.count - i ≡ 0 = omega arith in rw y (said_verdict true l))
+      finish z = answer (Some (true, l)) (let y : h.count - i ≡ 0 = omega arith in rw y (said_verdict true l))
 
       module _ (z : i < h.count) where
         step : same_elements (λ x y. same_of t (heap_of used w) x y) (items (h.count - i) (suc p + i) (heap_of used w)) (items (h.count - i) (suc q + i) (heap_of used w))
@@ -218,8 +218,8 @@ module _ (t w : List ℕ) (used : ℕ) (a b : Value) (pre : EqualPre t w used a 
             let e2 : suc (suc q + i) ≡ suc q + (i + 1) = omega arith in
             rw (e0, e1, e2) at (one (λ x y. same_of t (heap_of used w) x y) (heap_of used w) (n - i) (suc p + i) (suc q + i) (omega arith))
 
-        pub no_units : l ≡ 0 → Out ≡ verdict l₀ (same_of t (heap_of used w) a b)
-        no_units e = answer Out (rw (step, e) (none_left _ _))
+        pub no_units : l ≡ 0 → None ≡ verdict l₀ (same_of t (heap_of used w) a b)
+        no_units e = answer None (rw (step, e) (none_left _ _))
 
         pub room_x : 2 * (p + 1 + i) + 2 ≤ length w
         room_x = let x = whole_p in let y = pre.room in omega arith
@@ -257,18 +257,18 @@ module _ (t w : List ℕ) (used : ℕ) (a b : Value) (pre : EqualPre t w used a 
             right = placed_more (length t) (heap_of used w) q used (let c = whole_q in omega arith) y placed_y;
           }
 
-          module _ (n : ℕ) (ne : n ≡ l - 1) (lp : l ≡ 0 → ⊥) (r' : Verdict) (post : r' ≡ verdict n (same_of t (heap_of used w) x y)) where
-            inner : (s : Verdict) → r' ≡ s → verdict n (same_of t (heap_of used w) (item_in (heap_of used w) (suc p + i)) (item_in (heap_of used w) (suc q + i))) ≡ s
+          module _ (n : ℕ) (ne : n ≡ l - 1) (lp : l ≡ 0 → ⊥) (r' : Option (Bool × ℕ)) (post : r' ≡ verdict n (same_of t (heap_of used w) x y)) where
+            inner : (s : Option (Bool × ℕ)) → r' ≡ s → verdict n (same_of t (heap_of used w) (item_in (heap_of used w) (suc p + i)) (item_in (heap_of used w) (suc q + i))) ≡ s
             inner s e = rw (x_is, y_is) (sym post ∙ e)
 
             units : suc n ≡ l
             units = omega arith
 
-            pub ran_out : r' ≡ Out → Out ≡ verdict l₀ (same_of t (heap_of used w) a b)
-            ran_out e = answer Out (rw (step, ← units) (out_then _ _ n (inner Out e)))
+            pub ran_out : r' ≡ None → None ≡ verdict l₀ (same_of t (heap_of used w) a b)
+            ran_out e = answer None (rw (step, ← units) (out_then _ _ n (inner None e)))
 
-            pub differs : (c : Bool) (m : ℕ) → r' ≡ Done c m → c ≡ false → Done false m ≡ verdict l₀ (same_of t (heap_of used w) a b)
-            differs c m e f = answer (Done false m) (rw (step, ← units) (unlike_then _ _ n m (inner (Done false m) (rw f at e))))
+            pub differs : (c : Bool) (m : ℕ) → r' ≡ Some (c, m) → c ≡ false → Some (false, m) ≡ verdict l₀ (same_of t (heap_of used w) a b)
+            differs c m e f = answer (Some (false, m)) (rw (step, ← units) (unlike_then _ _ n m (inner (Some (false, m)) (rw f at e))))
 
-            pub again : (c : Bool) (m : ℕ) → r' ≡ Done c m → c ≡ true → Turn t (heap_of used w) p q h.count l₀ m (i + 1)
-            again c m e f = record { inside = omega arith; means = u.means ∙ rw (step, ← units) (alike_then _ _ n m (inner (Done true m) (rw f at e))) }
+            pub again : (c : Bool) (m : ℕ) → r' ≡ Some (c, m) → c ≡ true → Turn t (heap_of used w) p q h.count l₀ m (i + 1)
+            again c m e f = record { inside = omega arith; means = u.means ∙ rw (step, ← units) (alike_then _ _ n m (inner (Some (true, m)) (rw f at e))) }

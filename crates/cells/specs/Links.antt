@@ -1,17 +1,14 @@
 -- What the answers of the code stand for, and what the code asks.
-use Rattle.std.specs.Prelude.{◌≡◌, Bool, true, false, List, ◌++◌, map, ℕ, ◌+◌, ◌-◌, ◌*◌, ◌<◌, ◌≤◌, leb, length, get_or, if◌then◌else◌}
+use Rattle.std.specs.Prelude.{◌≡◌, Bool, true, false, List, ◌++◌, map, ℕ, ◌+◌, ◌-◌, ◌*◌, ◌<◌, ◌≤◌, leb, length, get_or, if◌then◌else◌, Err, None, Ok, Option, Result, Some}
 use Rattle.model.specs.declared.Value.{Value}
 use Rattle.model.specs.declared.Value.TheVariants as v
 use Rattle.model.specs.Values.{places, value_at, vals}
 use Rattle.model.specs.Heap as heap
 use Rattle.model.specs.Heap.{Cell, item, heap_of, list_elements, struct_fields, build_of, placed_below, heap_ok, exact_cells}
 use Rattle.model.specs.Equality.{Same, same, said, same_pair}
-use Rattle.cells.specs.declared.Built.{Built}
-use Rattle.cells.specs.declared.Built.TheVariants.{Taken, Bad}
 use Rattle.cells.specs.declared.Pair.{Pair}
 use Rattle.cells.specs.declared.Pair.TheVariants.{Said, Blocks}
-use Rattle.cells.specs.declared.Verdict.{Verdict}
-use Rattle.cells.specs.declared.Verdict.TheVariants.{Done, Out}
+use Rattle.model.specs.declared.Fault.{Fault}
 
 -- ---- building
 
@@ -52,16 +49,16 @@ pub record Took (used n u : ℕ) (w w' : List ℕ) : Type 0 where
   pub besides : Besides used u w w'
 
 -- a refused build leaves the store as it was
-abbrev pub After : Built → ℕ → ℕ → List ℕ → List ℕ → Type 0
-After (Taken u) used n w w' = Took used n u w w'
-After (Bad f) used n w w' = w' ≡ w
+abbrev pub After : Result ℕ Fault → ℕ → ℕ → List ℕ → List ℕ → Type 0
+After (Ok u) used n w w' = Took used n u w w'
+After (Err f) used n w w' = w' ≡ w
 
 -- what an answer and the store stand for
-abbrev pub built_of : Built → List ℕ → heap.Built
-built_of (Taken u) w = heap.built (heap_of u w)
-built_of (Bad f) w = heap.unbuilt f
+abbrev pub built_of : Result ℕ Fault → List ℕ → heap.Built
+built_of (Ok u) w = heap.built (heap_of u w)
+built_of (Err f) w = heap.unbuilt f
 
-pub record BuildPost (list : Bool) (s : List ℕ) (sp n k : ℕ) (w : List ℕ) (used : ℕ) (r : Built) (w' : List ℕ) : Type 0 where
+pub record BuildPost (list : Bool) (s : List ℕ) (sp n k : ℕ) (w : List ℕ) (used : ℕ) (r : Result ℕ Fault) (w' : List ℕ) : Type 0 where
   pub means : built_of r w' ≡ build_of (places 2 w) (heap_of used w) k (elements_of list n (vals sp s))
   pub after : After r used n w w'
 
@@ -77,8 +74,8 @@ pub record FieldPre (w : List ℕ) (used p : ℕ) : Type 0 where
 -- ---- equality
 
 -- with l units left: the answer and the units left then, or that they do not suffice
-unfoldable pub verdict : ℕ → Same → Verdict
-verdict l (same b k) = if leb k l then Done b (l - k) else Out
+unfoldable pub verdict : ℕ → Same → Option (Bool × ℕ)
+verdict l (same b k) = if leb k l then Some (b, l - k) else None
 
 pub record EqualPre (t w : List ℕ) (used : ℕ) (a b : Value) : Type 0 where
   pub room : 2 * used ≤ length w

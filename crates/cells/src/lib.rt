@@ -2,22 +2,14 @@
 #![tactic(auto)]
 
 ghost use Rattle.std.specs.Prelude.{◌≡◌, false, ◌&&◌, ◌+◌, ◌*◌, ◌<◌, ◌≤◌, length, get_or};
-ghost use Rattle.std.specs.Bool.{beq};
 ghost use Rattle.model.specs.Values.{vals, text_at};
 ghost use Rattle.model.specs.Heap.{heap_of, depth_in, deepest, field_of, whole_below, placed_below, block_ok, heap_ok, exact_cells};
 ghost use Rattle.model.specs.Equality.{same_bytes, same_of};
 ghost use Rattle.cells.specs.Links.{elements_of, Held, TopPre, CopyPost, BuildPost, FieldPre, verdict, EqualPre, Inside, Compared};
 
 use layout::reads::{room, same_bytes};
-use model::{DEPTH_LIMIT, Fault, Found, Header, Value};
+use model::{DEPTH_LIMIT, Fault, Header, Value};
 use value::words;
-
-// What a build gives: how many cells are taken then, or the fault.
-#[derive(Clone, Copy)]
-pub enum Built {
-    Taken(usize),
-    Bad(Fault),
-}
 
 // Element i of the list, or field i of the struct, that the n values on top of a stack make.
 fn element(list: bool, stack: &[u64], sp: usize, n: usize, i: usize) -> Value
@@ -55,14 +47,9 @@ fn deepest_of(list: bool, stack: &[u64], sp: usize, n: usize, cells: &[u64], use
     ensures { result ≡ deepest (heap_of used cells.now) (elements_of list n (vals sp stack.now)) }
 {
     let mut d = 0;
-    let mut i = 0;
-    while i < n {
+    for i in 0..n {
         let v = element(list, stack, sp, n, i);
-        let e = depth(v, cells, used);
-        if d < e {
-            d = e;
-        }
-        i += 1;
+        d = d.max(depth(v, cells, used));
     }
     d
 }
@@ -72,11 +59,9 @@ fn copy(list: bool, stack: &[u64], sp: usize, n: usize, cells: &mut [u64], from:
     requires { (n ≤ sp) × (2 * sp ≤ length stack.now) × (2 * (from + n) ≤ length cells.old) }
     ensures { CopyPost (elements_of list n (vals sp stack.now)) from n cells.old cells.new }
 {
-    let mut i = 0;
-    while i < n {
+    for i in 0..n {
         let v = element(list, stack, sp, n, i);
         words::write_value(cells, from + i, v);
-        i += 1;
     }
 }
 
@@ -89,18 +74,18 @@ pub fn build(
     number: usize,
     cells: &mut [u64],
     used: usize,
-) -> Built
+) -> Result<usize, Fault>
     requires { TopPre stack.now sp n cells.old used × (number < 0x1_0000) }
     ensures { BuildPost list stack.now sp n number cells.old used result cells.new }
 {
     let d = deepest_of(list, stack, sp, n, cells, used);
     if DEPTH_LIMIT <= d {
-        return Built::Bad(Fault::TooDeep);
+        return Err(Fault::TooDeep);
     }
     let all = room(cells.len(), 2);
     let end = used + n + 1;
     if all < end {
-        return Built::Bad(Fault::CellsFull);
+        return Err(Fault::CellsFull);
     }
     let h = Header {
         count: n,
@@ -109,20 +94,20 @@ pub fn build(
     };
     words::write_header(cells, used, h);
     copy(list, stack, sp, n, cells, used + 1);
-    Built::Taken(end)
+    Ok(end)
 }
 
 // Field a of the struct whose header is at p.
-pub fn field(cells: &[u64], used: usize, p: usize, a: usize) -> Found
+pub fn field(cells: &[u64], used: usize, p: usize, a: usize) -> Result<Value, Fault>
     requires { FieldPre cells.now used p }
     ensures { result ≡ field_of (heap_of used cells.now) p a }
 {
     let h = words::read_header(cells, p);
     let count = h.count;
     if a < count {
-        Found::Got(words::read_value(cells, p + 1 + a))
+        Ok(words::read_value(cells, p + 1 + a))
     } else {
-        Found::Bad(Fault::OutOfRange)
+        Err(Fault::OutOfRange)
     }
 }
 
@@ -131,20 +116,6 @@ pub fn field(cells: &[u64], used: usize, p: usize, a: usize) -> Found
 pub enum Pair {
     Said(bool),
     Blocks(u32, u32),
-}
-
-// Same or not, with the units left then; or that the units do not suffice.
-#[derive(Clone, Copy)]
-pub enum Verdict {
-    Done(bool, u64),
-    Out,
-}
-
-// Whether two booleans are the same.
-fn same_bool(x: bool, y: bool) -> bool
-    ensures { result ≡ beq x y }
-{
-    if x { y } else { !y }
 }
 
 // Whether the n bytes of text from o on are the m bytes from p on.
@@ -170,7 +141,7 @@ fn compare(text: &[u8], a: Value, b: Value) -> Pair
             _ => Pair::Said(false),
         },
         Value::Boolean(x) => match b {
-            Value::Boolean(y) => Pair::Said(same_bool(x, y)),
+            Value::Boolean(y) => Pair::Said(x == y),
             _ => Pair::Said(false),
         },
         Value::String(o, n) => match b {
@@ -193,12 +164,19 @@ fn compare(text: &[u8], a: Value, b: Value) -> Pair
 }
 
 // Equality of two values. Each pair of elements that is visited costs a unit, and it stops where they do not suffice.
-pub fn equal(text: &[u8], cells: &[u64], used: usize, a: Value, b: Value, left: u64) -> Verdict
+pub fn equal(
+    text: &[u8],
+    cells: &[u64],
+    used: usize,
+    a: Value,
+    b: Value,
+    left: u64,
+) -> Option<(bool, u64)>
     requires { EqualPre text.now cells.now used a b }
     ensures { result ≡ verdict left (same_of text.now (heap_of used cells.now) a b) }
 {
     match compare(text, a, b) {
-        Pair::Said(x) => Verdict::Done(x, left),
+        Pair::Said(x) => Some((x, left)),
         Pair::Blocks(p, q) => {
             let first = p as usize;
             let second = q as usize;
@@ -206,34 +184,26 @@ pub fn equal(text: &[u8], cells: &[u64], used: usize, a: Value, b: Value, left: 
             let k = words::read_header(cells, second);
             let count = h.count;
             if count != k.count {
-                return Verdict::Done(false, left);
+                return Some((false, left));
             }
             if h.number != k.number {
-                return Verdict::Done(false, left);
+                return Some((false, left));
             }
             let mut rest = left;
-            let mut i = 0;
-            while i < count {
+            for i in 0..count {
                 if rest == 0 {
-                    return Verdict::Out;
+                    return None;
                 }
                 let next = rest - 1;
                 let x = words::read_value(cells, first + 1 + i);
                 let y = words::read_value(cells, second + 1 + i);
-                match equal(text, cells, used, x, y, next) {
-                    Verdict::Done(alike, l) => {
-                        if !alike {
-                            return Verdict::Done(false, l);
-                        }
-                        rest = l;
-                    }
-                    Verdict::Out => {
-                        return Verdict::Out;
-                    }
+                let (alike, behind) = equal(text, cells, used, x, y, next)?;
+                if !alike {
+                    return Some((false, behind));
                 }
-                i += 1;
+                rest = behind;
             }
-            Verdict::Done(true, rest)
+            Some((true, rest))
         }
     }
 }
@@ -287,8 +257,7 @@ fn block_ok(texts: usize, cells: &[u64], used: usize, p: usize) -> bool
     let count = h.count;
     let told = h.depth;
     let mut d = 0;
-    let mut i = 0;
-    while i < count {
+    for i in 0..count {
         let at = p + 1 + i;
         if words::is_header(cells, at) {
             return false;
@@ -297,11 +266,7 @@ fn block_ok(texts: usize, cells: &[u64], used: usize, p: usize) -> bool
         if !placed(v, texts, cells, p) {
             return false;
         }
-        let e = depth(v, cells, p);
-        if d < e {
-            d = e;
-        }
-        i += 1;
+        d = d.max(depth(v, cells, p));
     }
     if DEPTH_LIMIT < told {
         return false;
@@ -317,14 +282,7 @@ fn exact_cells(cells: &[u64], used: usize) -> bool
     requires { 2 * used ≤ length cells.now }
     ensures { result ≡ exact_cells used 0 cells.now }
 {
-    let mut i = 0;
-    while i < used {
-        if !words::exact_cell(cells, i) {
-            return false;
-        }
-        i += 1;
-    }
-    true
+    (0..used).all(|i| words::exact_cell(cells, i))
 }
 
 // Whether the cells are in good order: exact words, and blocks one behind the other.
@@ -336,6 +294,7 @@ pub fn good_cells(texts: usize, cells: &[u64], used: usize) -> bool
         return false;
     }
     let mut p = 0;
+    // Each step is as long as its block, so this is no `for`.
     while p < used {
         if !block_ok(texts, cells, used, p) {
             return false;

@@ -3,7 +3,7 @@ use Rattle.std.specs.Prelude.{if◌then◌else◌}
 use mathlib.Core.Path.{◌≡◌, refl, sym, ◌∙◌}
 use mathlib.Core.Bool.{Bool, true, false, ◌||◌, and-false, or-false, or-true}
 use mathlib.Core.List.{List, [], ◌∷◌}
-use Prim.Native.Nat.{ℕ, zero, suc, ◌+◌, ◌≤◌, ◌<◌}
+use Prim.Native.Nat.{ℕ, zero, suc, ◌≤◌, ◌<◌}
 use native.Mathlib.Omega.{arith}
 use native.Mathlib.Decide.{ℕ_discrete}
 use lib.Dec.{eqb, ltb}
@@ -16,24 +16,6 @@ use Rattle.check_code.specs.Links.{Cleared, Marked}
 use Rattle.check_code.proofs.Turns.{Turn, first_turn, last_turn, next_turn}
 
 -- ---- marks cleared
-
-pub record Clearing (s now : List ℕ) (j : ℕ) : Type 0 where
-  pub so_far : Cleared j now
-  pub same : length now ≡ length s
-
-pub none_cleared : (s : List ℕ) → Clearing s s 0
-none_cleared s = record { so_far = record { clear = λ k h. absurd (let z : ⊥ = omega arith in z) }; same = refl }
-
-module _ {s now : List ℕ} {j : ℕ} (t : Clearing s now j) where
-  clear_at : j < length now → (k : ℕ) → k < j + 1 → Dec (k ≡ j) → get_or (set now j 0) k 0 ≡ 0
-  clear_at l k h (yes e) = rw e (get_or-set_same now j 0 0 l)
-  clear_at l k h (no e) = get_or-set_other now j k 0 0 e ∙ t.so_far.clear k (omega arith)
-
-  pub one_cleared : j < length now → Clearing s (set now j 0) (j + 1)
-  one_cleared l = record { so_far = record { clear = λ k h. clear_at l k h (ℕ_discrete k j) }; same = length-set now j 0 ∙ t.same }
-
-  pub all_cleared : {n : ℕ} → n ≤ j → Cleared n now
-  all_cleared l = record { clear = λ k h. t.so_far.clear k (omega arith) }
 
 -- ---- marks set
 

@@ -98,6 +98,7 @@ pub fn whole(code: &[u8]) -> bool
     ensures { result ≡ every (whole_at code.now) (stands code.now) }
 {
     let mut i = 0;
+    // Each step is as long as its instruction, so this is no `for`.
     while i < code.len() {
         if whole_at(code, i) {
             i = next_at(code, i);
@@ -143,6 +144,7 @@ pub fn numbers(code: &[u8], constants: usize, structs: usize, functions: usize) 
     ensures { NumbersAll constants structs functions code.now result }
 {
     let mut i = 0;
+    // Each step is as long as its instruction, so this is no `for`.
     while i < code.len() {
         if numbers_at(code, i, constants, structs, functions) {
             i = next_at(code, i);
@@ -175,6 +177,7 @@ pub fn calls(code: &[u8]) -> bool
     ensures { result ≡ every (call_at code.now) (stands code.now) }
 {
     let mut i = 0;
+    // Each step is as long as its instruction, so this is no `for`.
     while i < code.len() {
         if call_at(code, i) {
             i = next_at(code, i);
@@ -223,6 +226,7 @@ pub fn tally(code: &[u8], counts: &mut [u32])
     ensures { Enters code.now (stands code.now) counts.old counts.new }
 {
     let mut i = 0;
+    // Each step is as long as its instruction, so this is no `for`.
     while i < code.len() {
         tally_at(code, i, counts);
         i = next_at(code, i);
@@ -236,11 +240,7 @@ pub fn clear(n: usize, marks: &mut [u32])
     requires { n ≤ length marks.old }
     ensures { Cleared n marks.new }
 {
-    let mut j = 0;
-    while j < n {
-        marks[j] = 0;
-        j = j + 1;
-    }
+    marks[..n].fill(0);
 }
 
 // Marks where the instructions begin, and no other position of the code.
@@ -251,6 +251,7 @@ pub fn mark(code: &[u8], marks: &mut [u32])
     let n = code.len();
     clear(n, marks);
     let mut i = 0;
+    // Each step is as long as its instruction, so this is no `for`.
     while i < code.len() {
         marks[i] = 1;
         i = next_at(code, i);
@@ -303,6 +304,7 @@ pub fn jumps(main: bool, code: &[u8], marks: &mut [u32]) -> bool
 {
     mark(code, marks);
     let mut i = 0;
+    // Each step is as long as its instruction, so this is no `for`.
     while i < code.len() {
         if jump_at(main, code, i, marks) {
             i = next_at(code, i);

@@ -8,33 +8,31 @@ use native.Mathlib.Nat.{eq-or-lt_of_le}
 use native.Mathlib.Omega.{arith}
 use lib.ListN.{length, get_or, take, length-take}
 use Rattle.check_rules.specs.Rules.{Path, starts, goes, leaps, Heights, Greatest}
-use Rattle.check_heights.specs.declared.Height.{Height}
-use Rattle.check_heights.specs.declared.Height.TheVariants as a
 use Rattle.check_heights.specs.declared.Flaw.{Flaw}
 use Rattle.check_heights.specs.declared.Flaw.TheVariants as w
-use Rattle.check_heights.specs.declared.Seen.{Seen}
-use Rattle.check_heights.specs.declared.Seen.TheVariants as n
 use Rattle.check_heights.specs.Answer.{HeightsPre, HeightsPost, BreaksAt, lacks, differs, ends as Reaches-end, FlawPost}
-use Rattle.check_heights.specs.Links.{Known, Unknown, Half, ScanMeans, ScanPost, finished, PassMeans, PassPost}
+use Rattle.check_heights.specs.Links.{Known, Unknown, Half, ScanPost, finished, PassMeans, PassPost}
 use Rattle.check_heights.proofs.Walks.{not_both, path_within}
 use Rattle.check_heights.proofs.Tables.{known_one, known_or_not}
 use Rattle.check_heights.proofs.Halves.{greater_attained}
+use Rattle.std.specs.Prelude.{Err, None, Ok, Option, Result, Some}
+use Rattle.std.specs.Result.{result_ok, result_err}
 
 -- ---- `finish`
 
-pub not_reached : (main : Bool) (top : ℕ) {last : ℕ} → last ≡ 0 → n.Greatest top ≡ finished main top last
+pub not_reached : (main : Bool) (top : ℕ) {last : ℕ} → last ≡ 0 → Ok top ≡ finished main top last
 unfolding finished
 not_reached main top e = rw e
 
-pub reached_in_main : {main : Bool} (top last : ℕ) → (last ≡ 0 → ⊥) → main ≡ true → {m : ℕ} → m ≡ max top (last - 1) → n.Greatest m ≡ finished main top last
+pub reached_in_main : {main : Bool} (top last : ℕ) → (last ≡ 0 → ⊥) → main ≡ true → {m : ℕ} → m ≡ max top (last - 1) → Ok m ≡ finished main top last
 unfolding finished
 reached_in_main top zero z e q = absurd (z refl)
-reached_in_main top (suc h) z e q = rw (e, q) (ap (λ (x : ℕ). n.Greatest (max top x)) (omega arith))
+reached_in_main top (suc h) z e q = rw (e, q) (ap (λ (x : ℕ). Ok (max top x)) (omega arith))
 
-pub reached_elsewhere : {main : Bool} (top last : ℕ) → (last ≡ 0 → ⊥) → main ≡ false → n.Flawed (w.Ends (last - 1)) ≡ finished main top last
+pub reached_elsewhere : {main : Bool} (top last : ℕ) → (last ≡ 0 → ⊥) → main ≡ false → Err (w.Ends (last - 1)) ≡ finished main top last
 unfolding finished
 reached_elsewhere top zero z e = absurd (z refl)
-reached_elsewhere top (suc h) z e = rw e (ap (λ (x : ℕ). n.Flawed (w.Ends x)) (omega arith))
+reached_elsewhere top (suc h) z e = rw e (ap (λ (x : ℕ). Err (w.Ends x)) (omega arith))
 
 -- ---- `pass`
 
@@ -89,14 +87,12 @@ module _ (main : Bool) (count : ℕ) (code t₀ : List ℕ) (pre : HeightsPre ma
   ends true m (suc x) e = ends_in_main (record { is = omega arith }) m
   ends false m (suc x) e = ends_elsewhere {x = x} (record { is = omega arith }) m
 
-module _ (main : Bool) (count : ℕ) (code t₀ : List ℕ) (pre : HeightsPre main count code t₀) {r : Seen} {t : List ℕ} (p : ScanPost main count code r t) where
-  pub scan_ends : {top : ℕ} → r ≡ n.Greatest top → {f : Seen} → f ≡ finished main top (get_or t (length code) 0) → PassPost main count code f
-  scan_ends {top} e q =
-      let s : Half main count code (length code) top t = subst (λ (x : Seen). ScanMeans x main count code t) e p.means in
-      record { means = rw q (ends main count code t₀ pre s main refl _ refl) }
+module _ (main : Bool) (count : ℕ) (code t₀ : List ℕ) (pre : HeightsPre main count code t₀) {t : List ℕ} where
+  pub scan_ends : {top : ℕ} → ScanPost main count code (Ok top) t → {r : Result ℕ Flaw} → r ≡ finished main top (get_or t (length code) 0) → PassPost main count code r
+  scan_ends p e = record { means = rw e (ends main count code t₀ pre p.means main refl _ refl) }
 
-  pub scan_breaks : {x : Flaw} → r ≡ n.Flawed x → PassPost main count code r
-  scan_breaks {x} e = let b : BreaksAt main count code x = subst (λ (y : Seen). ScanMeans y main count code t) e p.means in record { means = rw e b }
+  pub scan_breaks : {x : Flaw} → ScanPost main count code (Err x) t → PassPost main count code (Err x)
+  scan_breaks p = record { means = p.means }
 
 -- ---- `heights`
 
@@ -119,32 +115,14 @@ a_flaw_breaks (lacks p l e) hs = not_both (hs.enough p l) e
 a_flaw_breaks (differs p q d) hs = d (hs.one p q)
 a_flaw_breaks (Reaches-end m p) hs = let y = hs.inside p m in omega arith
 
-told_of : {main : Bool} {count : ℕ} {code : List ℕ} (x : Flaw) → BreaksAt main count code x → FlawPost main count code x
-told_of {main = main} {count = count} {code = code} w.Nothing b = elim b [ ]
-told_of (w.Lacks i h) b = record { means = b }
-told_of (w.Differs i h k) b = record { means = b }
-told_of (w.Ends h) b = record { means = b }
+module _ {main : Bool} {count : ℕ} {code : List ℕ} where
+  pub measured_or_not : (r : Result ℕ Flaw) → PassPost main count code r → HeightsPost main count code (result_ok r)
+  measured_or_not (Ok m) p = record { means = p.means }
+  measured_or_not (Err x) p = record { means = a_flaw_breaks p.means }
 
-module _ {main : Bool} {count : ℕ} {code : List ℕ} {r : Seen} (p : PassPost main count code r) where
-  module _ {m : ℕ} (e : r ≡ n.Greatest m) where
-    measured : Heights main count code × Greatest main count code m
-    measured = subst (λ (y : Seen). PassMeans y main count code) e p.means
-
-    pub pass_measures : HeightsPost main count code (a.Greatest m)
-    pass_measures = record { means = measured }
-
-    pub no_flaw : FlawPost main count code w.Nothing
-    no_flaw = record { means = measured.0 }
-
-  module _ {x : Flaw} (e : r ≡ n.Flawed x) where
-    flawed : BreaksAt main count code x
-    flawed = subst (λ (y : Seen). PassMeans y main count code) e p.means
-
-    pub pass_breaks : HeightsPost main count code a.Broken
-    pass_breaks = record { means = a_flaw_breaks flawed }
-
-    pub flaw_told : FlawPost main count code x
-    flaw_told = told_of x flawed
+  pub flaw_or_none : (r : Result ℕ Flaw) → PassPost main count code r → FlawPost main count code (result_err r)
+  flaw_or_none (Ok m) p = record { means = p.means.0 }
+  flaw_or_none (Err x) p = record { means = p.means }
 
 -- ---- no second answer fits
 
@@ -152,8 +130,8 @@ one_greatest : {main : Bool} {count : ℕ} {code : List ℕ} {m n : ℕ} → Gre
 one_greatest p q = let x = p.most q.path in let y = q.most p.path in omega arith
 
 -- THE LAW: two answers that both fit are one
-pub heights_one_answer : {main : Bool} {count : ℕ} {code : List ℕ} (r s : Height) → HeightsPost main count code r → HeightsPost main count code s → r ≡ s
-heights_one_answer (a.Greatest m) (a.Greatest n) p q = ap a.Greatest (one_greatest p.means.1 q.means.1)
-heights_one_answer (a.Greatest m) a.Broken p q = absurd (q.means p.means.0)
-heights_one_answer a.Broken (a.Greatest n) p q = absurd (p.means q.means.0)
-heights_one_answer a.Broken a.Broken p q = refl
+pub heights_one_answer : {main : Bool} {count : ℕ} {code : List ℕ} (r s : Option ℕ) → HeightsPost main count code r → HeightsPost main count code s → r ≡ s
+heights_one_answer (Some m) (Some n) p q = ap Some (one_greatest p.means.1 q.means.1)
+heights_one_answer (Some m) None p q = absurd (q.means p.means.0)
+heights_one_answer None (Some n) p q = absurd (p.means q.means.0)
+heights_one_answer None None p q = refl

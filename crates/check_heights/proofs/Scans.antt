@@ -1,5 +1,5 @@
 -- The loop of the scan: each turn of it, and its end.
-use mathlib.Core.Path.{◌≡◌, refl, sym, ap, subst, ◌∙◌}
+use mathlib.Core.Path.{◌≡◌, refl, sym, ap, ◌∙◌}
 use mathlib.Core.Bool.{Bool}
 use mathlib.Core.List.{List}
 use Prim.Native.Nat.{ℕ, ◌+◌, ◌≤◌, ◌<◌}
@@ -7,14 +7,13 @@ use native.Mathlib.Omega.{arith}
 use lib.ListN.{length}
 use Rattle.check_rules.specs.Rules.{leaps}
 use Rattle.check_heights.specs.declared.Flaw.{Flaw}
-use Rattle.check_heights.specs.declared.Seen.{Seen}
-use Rattle.check_heights.specs.declared.Seen.TheVariants as s
 use Rattle.check_heights.specs.Answer.{HeightsPre}
-use Rattle.check_heights.specs.Links.{Known, VisitPre, Broke, TurnMeans, TurnPre, TurnPost, Half, prepared, ScanPre, ScanPost}
+use Rattle.check_heights.specs.Links.{Known, VisitPre, TurnPre, TurnPost, Half, prepared, ScanPre, ScanPost}
 use Rattle.check_heights.proofs.Walks.{path_within, path_whole}
 use Rattle.check_heights.proofs.Instructions.{path_low}
 use Rattle.check_heights.proofs.Tables.{prepared_length}
 use Rattle.check_heights.proofs.Halves.{half_start, half_turned, half_broke}
+use Rattle.std.specs.Prelude.{Err, Ok}
 
 module _ (main : Bool) (count : ℕ) (code : List ℕ) where
   pub scan_ready : {t₀ t : List ℕ} → HeightsPre main count code t₀ → t ≡ prepared count (length t₀) → ScanPre main count code t
@@ -57,20 +56,13 @@ module _ (main : Bool) (count : ℕ) (code : List ℕ) where
       pub turn_ready : i < length code → TurnPre code i t
       turn_ready lt = record { inside = omega (arith, pre.given.room, l.same); ready = reached_ready lt }
 
-      pub loop_goes : i < length code → {r : Seen} {t' : List ℕ} → TurnPost main code i top t r t' → {m : ℕ} → r ≡ s.Greatest m → length t' ≡ length t
-          → Looping t₀ (i + 1) m t'
-      loop_goes lt {t' = t'} p e n = record {
-        half = half_turned main count code l.half lt (subst (λ (x : Seen). TurnMeans x main code i top t t') e p.means);
-        same = n ∙ l.same;
-        within = omega arith;
-      }
+      pub loop_goes : i < length code → {m : ℕ} {t' : List ℕ} → TurnPost main code i top t (Ok m) t' → length t' ≡ length t → Looping t₀ (i + 1) m t'
+      loop_goes lt p n = record { half = half_turned main count code l.half lt p.means; same = n ∙ l.same; within = omega arith }
 
-      pub loop_breaks : i < length code → {r : Seen} {t' : List ℕ} → TurnPost main code i top t r t' → {x : Flaw} → r ≡ s.Flawed x → {t'' : List ℕ} → ScanPost main count code r t''
-      loop_breaks lt {t' = t'} p {x} e =
-          let b : Broke main code i t x = subst (λ (y : Seen). TurnMeans y main code i top t t') e p.means in
-          record { means = rw e (half_broke main count code l.half lt b) }
+      pub loop_breaks : i < length code → {x : Flaw} {t' : List ℕ} → TurnPost main code i top t (Err x) t' → {t'' : List ℕ} → ScanPost main count code (Err x) t''
+      loop_breaks lt p = record { means = half_broke main count code l.half lt p.means }
 
-      pub loop_ends : length code ≤ i → ScanPost main count code (s.Greatest top) t
+      pub loop_ends : length code ≤ i → ScanPost main count code (Ok top) t
       loop_ends g =
           let e : i ≡ length code = omega (arith, l.within) in
           record { means = rw e at l.half }

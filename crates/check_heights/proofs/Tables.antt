@@ -2,15 +2,16 @@
 use mathlib.Core.Path.{◌≡◌, refl, sym, subst, ◌∙◌}
 use mathlib.Core.Bool.{Bool, true, false}
 use mathlib.Core.List.{List}
-use Prim.Native.Nat.{ℕ, zero, suc, ◌+◌, ◌-◌, ◌≤◌, ◌<◌}
+use Prim.Native.Nat.{ℕ, zero, suc, ◌+◌, ◌-◌, ◌<◌}
 use native.Mathlib.Omega.{arith}
 use native.Mathlib.Decide.{ℕ_discrete}
-use lib.ListN.{length, get_or, set, replicate, length-set, length-replicate, get_or-replicate}
-use lib.Seq.{get_or-set_same, get_or-set_other, ext_get_or}
+use lib.ListN.{length, get_or, set, replicate, length-set, length-replicate}
+use lib.Seq.{get_or-set_same, get_or-set_other}
 use Rattle.check_heights.specs.declared.Flaw.{Flaw}
 use Rattle.check_heights.specs.declared.Flaw.TheVariants as w
 use Rattle.check_heights.specs.Links.{Known, Unknown, From, old, new, clash, SendPost, prepared}
 use Rattle.check_heights.proofs.Walks.{not_both}
+use Rattle.std.specs.Prelude.{Err, Ok, Result}
 
 pub known_one : {t : List ℕ} {k x y : ℕ} → Known t k x → Known t k y → x ≡ y
 known_one a b = omega (arith, a.is, b.is)
@@ -38,7 +39,7 @@ module _ (j g : ℕ) (t : List ℕ) where
     put_keeps {k} z (no e) = record { is = get_or-set_other t j k (g + 1) 0 e ∙ z.is }
 
     -- where no height is known
-    pub put_new : SendPost true j g t w.Nothing (set t j (g + 1))
+    pub put_new : SendPost true j g t (Ok tt) (set t j (g + 1))
     put_new = record {
       means = record {
         done = λ q. record { is = get_or-set_same t j (g + 1) 0 l };
@@ -48,7 +49,7 @@ module _ (j g : ℕ) (t : List ℕ) where
     }
 
   -- where it is this one
-  pub put_old : get_or t j 0 ≡ g + 1 → SendPost true j g t w.Nothing t
+  pub put_old : get_or t j 0 ≡ g + 1 → SendPost true j g t (Ok tt) t
   put_old e = record {
     means = record {
       done = λ q. record { is = e };
@@ -58,12 +59,12 @@ module _ (j g : ℕ) (t : List ℕ) where
   }
 
   -- where it is another
-  pub put_other : (get_or t j 0 ≡ 0 → ⊥) → (get_or t j 0 ≡ g + 1 → ⊥) → SendPost true j g t (w.Differs j (get_or t j 0 - 1) g) t
+  pub put_other : (get_or t j 0 ≡ 0 → ⊥) → (get_or t j 0 ≡ g + 1 → ⊥) → SendPost true j g t (Err (w.Differs j (get_or t j 0 - 1) g)) t
   put_other u n = record { means = clash refl (known_at t j u) (λ q. n (omega arith)) }
 
   -- ---- a height is sent, if go
 
-  pub not_sent : {go : Bool} → go ≡ false → SendPost go j g t w.Nothing t
+  pub not_sent : {go : Bool} → go ≡ false → SendPost go j g t (Ok tt) t
   not_sent e = record {
     means = record {
       done = λ q. absurd (not_both q e);
@@ -72,30 +73,10 @@ module _ (j g : ℕ) (t : List ℕ) where
     };
   }
 
-  pub is_sent : {go : Bool} {x : Flaw} {t' : List ℕ} → go ≡ true → SendPost true j g t x t' → SendPost go j g t x t'
+  pub is_sent : {go : Bool} {x : Result Unit Flaw} {t' : List ℕ} → go ≡ true → SendPost true j g t x t' → SendPost go j g t x t'
   is_sent e p = rw e p
 
--- ---- the table is cleared
-
--- the words below i are 0
-pub record Cleared (t₀ t : List ℕ) (i : ℕ) : Type 0 where
-  pub same : length t ≡ length t₀
-  pub zeros : (k : ℕ) → k < i → get_or t k 0 ≡ 0
-
-pub none_cleared : (t : List ℕ) → Cleared t t 0
-none_cleared t = record { same = refl; zeros = λ k h. absurd (omega arith) }
-
-pub one_cleared : {t₀ t : List ℕ} {i : ℕ} → Cleared t₀ t i → i < length t → Cleared t₀ (set t i 0) (i + 1)
-one_cleared {t₀} {t} {i} c l = record { same = length-set t i 0 ∙ c.same; zeros = λ k h. at k h (ℕ_discrete k i) }
-  where
-    at : (k : ℕ) → k < i + 1 → Dec (k ≡ i) → get_or (set t i 0) k 0 ≡ 0
-    at k h (yes e) = rw e (get_or-set_same t i 0 0 l)
-    at k h (no e) = get_or-set_other t i k 0 0 e ∙ c.zeros k (omega arith)
-
-pub all_cleared : {t₀ t : List ℕ} {i : ℕ} → Cleared t₀ t i → length t ≤ i → t ≡ replicate (length t₀) 0
-all_cleared {t₀} {t} c h =
-    ext_get_or 0 t (replicate (length t₀) 0) (c.same ∙ sym (length-replicate (length t₀) 0))
-    (λ k l. c.zeros k (omega arith) ∙ sym (get_or-replicate (length t₀) k 0 0 (omega (arith, c.same))))
+-- ---- the table is cleared, and then the start is put
 
 pub prepared_is : (t t₁ : List ℕ) (count : ℕ) → t₁ ≡ replicate (length t) 0 → set t₁ 0 (count + 1) ≡ prepared count (length t)
 unfolding prepared

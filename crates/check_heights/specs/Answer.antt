@@ -1,9 +1,7 @@
 -- [check] Rule 6 of one function: what the pass over its code is given, and what it answers.
-use Rattle.std.specs.Prelude.{◌≡◌, Bool, true, false, List, ℕ, ◌≤◌, ◌<◌, length}
+use Rattle.std.specs.Prelude.{◌≡◌, Bool, true, false, List, ℕ, ◌≤◌, ◌<◌, length, MatchOption, None, Option, Some}
 use Rattle.model.specs.Programs.{stands}
 use Rattle.check_rules.specs.Rules.{whole_at, jump_at, every, suffices, Path, Heights, Greatest}
-use Rattle.check_heights.specs.declared.Height.{Height}
-use Rattle.check_heights.specs.declared.Height.TheVariants as a
 use Rattle.check_heights.specs.declared.Flaw.{Flaw}
 use Rattle.check_heights.specs.declared.Flaw.TheVariants as w
 
@@ -15,12 +13,12 @@ pub record HeightsPre (main : Bool) (count : ℕ) (code table : List ℕ) : Type
   pub codes : length code ≤ 65535
   pub room : length code < length table
 
-abbrev pub HeightsMeans : Height → (main : Bool) (count : ℕ) (code : List ℕ) → Type 0
-HeightsMeans (a.Greatest m) main count code = Heights main count code × Greatest main count code m
-HeightsMeans a.Broken main count code = Heights main count code → ⊥
+abbrev pub HeightsMeans : Option ℕ → (main : Bool) (count : ℕ) (code : List ℕ) → Type 0
+HeightsMeans (Some m) main count code = Heights main count code × Greatest main count code m
+HeightsMeans None main count code = Heights main count code → ⊥
 
--- exact: the greatest height where the rule is kept, and Broken only where it is not
-pub record HeightsPost (main : Bool) (count : ℕ) (code : List ℕ) (r : Height) : Type 0 where
+-- exact: the greatest height where the rule is kept, and None only where it is not
+pub record HeightsPost (main : Bool) (count : ℕ) (code : List ℕ) (r : Option ℕ) : Type 0 where
   pub means : HeightsMeans r main count code
 
 -- what breaks the rule: a path comes to a position with a height that does not suffice there; two paths come to one with different heights; or a path
@@ -30,13 +28,6 @@ pub data BreaksAt (main : Bool) (count : ℕ) (code : List ℕ) : Flaw → Type 
   differs : {i h k : ℕ} → Path main count code i h → Path main count code i k → (h ≡ k → ⊥) → BreaksAt main count code (w.Differs i h k)
   ends : {h : ℕ} → main ≡ false → Path main count code (length code) h → BreaksAt main count code (w.Ends h)
 
--- P where there is no flaw, else Q of it
-abbrev pub Told : (P : Type 0) (Q : Flaw → Type 0) → Flaw → Type 0
-Told P Q w.Nothing = P
-Told P Q (w.Lacks i h) = Q (w.Lacks i h)
-Told P Q (w.Differs i h k) = Q (w.Differs i h k)
-Told P Q (w.Ends h) = Q (w.Ends h)
-
 -- nothing exactly where the rule is kept; else what breaks it
-pub record FlawPost (main : Bool) (count : ℕ) (code : List ℕ) (x : Flaw) : Type 0 where
-  pub means : Told (Heights main count code) (BreaksAt main count code) x
+pub record FlawPost (main : Bool) (count : ℕ) (code : List ℕ) (x : Option Flaw) : Type 0 where
+  pub means : MatchOption x (Heights main count code) (BreaksAt main count code)

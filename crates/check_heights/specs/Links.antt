@@ -1,13 +1,11 @@
 -- What the functions of the pass promise each other. A table of heights has 0 at a position whose height is not known, else the height and one more.
-use Rattle.std.specs.Prelude.{◌≡◌, Bool, true, false, List, ℕ, zero, suc, ◌+◌, ◌≤◌, ◌<◌, max, length, get_or, set, replicate}
+use Rattle.std.specs.Prelude.{◌≡◌, Bool, true, false, List, ℕ, zero, suc, ◌+◌, ◌≤◌, ◌<◌, max, length, get_or, set, replicate, Err, MatchResult, Ok, Result}
 use Rattle.model.specs.Opcodes.{popped}
 use Rattle.model.specs.Programs.{opcode_in, next_in}
 use Rattle.check_rules.specs.Rules.{first_at, second_at, suffices, height_after, leads_on, is_jump, target_at, Path, Heights, Greatest}
 use Rattle.check_heights.specs.declared.Flaw.{Flaw}
 use Rattle.check_heights.specs.declared.Flaw.TheVariants as w
-use Rattle.check_heights.specs.declared.Seen.{Seen}
-use Rattle.check_heights.specs.declared.Seen.TheVariants as s
-use Rattle.check_heights.specs.Answer.{HeightsPre, BreaksAt, Told}
+use Rattle.check_heights.specs.Answer.{HeightsPre, BreaksAt}
 
 -- ---- an instruction
 
@@ -59,8 +57,8 @@ pub record SendPre (go : Bool) (j g : ℕ) (t : List ℕ) : Type 0 where
   pub room : go ≡ true → j < length t
   pub low : g ≤ suc height_limit
 
-pub record SendPost (go : Bool) (j g : ℕ) (t : List ℕ) (x : Flaw) (t' : List ℕ) : Type 0 where
-  pub means : Told (Sent go j g t t') (Clash go j g t) x
+pub record SendPost (go : Bool) (j g : ℕ) (t : List ℕ) (x : Result Unit Flaw) (t' : List ℕ) : Type 0 where
+  pub means : MatchResult x (λ _. Sent go j g t t') (Clash go j g t)
 
 -- ---- the two ways on from an instruction, both with height g
 
@@ -79,8 +77,8 @@ pub record EnterPre (code : List ℕ) (i g : ℕ) (t : List ℕ) : Type 0 where
   pub room : length code < length t
   pub low : g ≤ suc height_limit
 
-pub record EnterPost (main : Bool) (code : List ℕ) (i g : ℕ) (t : List ℕ) (x : Flaw) (t' : List ℕ) : Type 0 where
-  pub means : Told (Entered main code i g t t') (Barred main code i g t) x
+pub record EnterPost (main : Bool) (code : List ℕ) (i g : ℕ) (t : List ℕ) (x : Result Unit Flaw) (t' : List ℕ) : Type 0 where
+  pub means : MatchResult x (λ _. Entered main code i g t t') (Barred main code i g t)
 
 -- ---- an instruction that is reached with height h
 
@@ -98,8 +96,8 @@ pub record VisitPre (code : List ℕ) (i h : ℕ) (t : List ℕ) : Type 0 where
   pub room : length code < length t
   pub low : h ≤ height_limit
 
-pub record VisitPost (main : Bool) (code : List ℕ) (i h : ℕ) (t : List ℕ) (x : Flaw) (t' : List ℕ) : Type 0 where
-  pub means : Told (Visited main code i h t t') (Stuck main code i h t) x
+pub record VisitPost (main : Bool) (code : List ℕ) (i h : ℕ) (t : List ℕ) (x : Result Unit Flaw) (t' : List ℕ) : Type 0 where
+  pub means : MatchResult x (λ _. Visited main code i h t t') (Stuck main code i h t)
 
 -- ---- a position, reached or not
 
@@ -117,11 +115,11 @@ pub record Broke (main : Bool) (code : List ℕ) (i : ℕ) (t : List ℕ) (x : F
   pub known : Known t i height
   pub stuck : Stuck main code i height t x
 
-abbrev pub TurnMeans : (r : Seen) (main : Bool) (code : List ℕ) (i top : ℕ) (t t' : List ℕ) → Type 0
-TurnMeans (s.Greatest m) main code i top t t' = Turned main code i top t m t'
-TurnMeans (s.Flawed x) main code i top t t' = Broke main code i t x
+abbrev pub TurnMeans : (r : Result ℕ Flaw) (main : Bool) (code : List ℕ) (i top : ℕ) (t t' : List ℕ) → Type 0
+TurnMeans (Ok m) main code i top t t' = Turned main code i top t m t'
+TurnMeans (Err x) main code i top t t' = Broke main code i t x
 
-pub record TurnPost (main : Bool) (code : List ℕ) (i top : ℕ) (t : List ℕ) (r : Seen) (t' : List ℕ) : Type 0 where
+pub record TurnPost (main : Bool) (code : List ℕ) (i top : ℕ) (t : List ℕ) (r : Result ℕ Flaw) (t' : List ℕ) : Type 0 where
   pub means : TurnMeans r main code i top t t'
 
 -- ---- the scan
@@ -145,28 +143,28 @@ pub record Half (main : Bool) (count : ℕ) (code : List ℕ) (i top : ℕ) (t :
 unfoldable pub prepared : (count n : ℕ) → List ℕ
 prepared count n = set (replicate n 0) 0 (count + 1)
 
-abbrev pub ScanMeans : (r : Seen) (main : Bool) (count : ℕ) (code t' : List ℕ) → Type 0
-ScanMeans (s.Greatest m) main count code t' = Half main count code (length code) m t'
-ScanMeans (s.Flawed x) main count code t' = BreaksAt main count code x
+abbrev pub ScanMeans : (r : Result ℕ Flaw) (main : Bool) (count : ℕ) (code t' : List ℕ) → Type 0
+ScanMeans (Ok m) main count code t' = Half main count code (length code) m t'
+ScanMeans (Err x) main count code t' = BreaksAt main count code x
 
 pub record ScanPre (main : Bool) (count : ℕ) (code t : List ℕ) : Type 0 where
   pub given : HeightsPre main count code t
   pub fresh : t ≡ prepared count (length t)
 
-pub record ScanPost (main : Bool) (count : ℕ) (code : List ℕ) (r : Seen) (t' : List ℕ) : Type 0 where
+pub record ScanPost (main : Bool) (count : ℕ) (code : List ℕ) (r : Result ℕ Flaw) (t' : List ℕ) : Type 0 where
   pub means : ScanMeans r main count code t'
 
 -- ---- the end, by its entry: not reached, or reached, which main alone may be
-unfoldable pub finished : (main : Bool) (top last : ℕ) → Seen
-finished main top zero = s.Greatest top
-finished true top (suc h) = s.Greatest (max top h)
-finished false top (suc h) = s.Flawed (w.Ends h)
+unfoldable pub finished : (main : Bool) (top last : ℕ) → Result ℕ Flaw
+finished main top zero = Ok top
+finished true top (suc h) = Ok (max top h)
+finished false top (suc h) = Err (w.Ends h)
 
 -- ---- the pass
 
-abbrev pub PassMeans : (r : Seen) (main : Bool) (count : ℕ) (code : List ℕ) → Type 0
-PassMeans (s.Greatest m) main count code = Heights main count code × Greatest main count code m
-PassMeans (s.Flawed x) main count code = BreaksAt main count code x
+abbrev pub PassMeans : (r : Result ℕ Flaw) (main : Bool) (count : ℕ) (code : List ℕ) → Type 0
+PassMeans (Ok m) main count code = Heights main count code × Greatest main count code m
+PassMeans (Err x) main count code = BreaksAt main count code x
 
-pub record PassPost (main : Bool) (count : ℕ) (code : List ℕ) (r : Seen) : Type 0 where
+pub record PassPost (main : Bool) (count : ℕ) (code : List ℕ) (r : Result ℕ Flaw) : Type 0 where
   pub means : PassMeans r main count code

@@ -2,7 +2,7 @@
 // A table has a word for each position of the code: 0 where no path is known to come, else the height and one more.
 #![tactic(auto)]
 
-ghost use Rattle.std.specs.Prelude.{◌≡◌, true, suc, ◌≤◌, ◌<◌, max, length, get_or, replicate};
+ghost use Rattle.std.specs.Prelude.{◌≡◌, true, suc, ◌≤◌, ◌<◌, length, get_or};
 ghost use Rattle.check_rules.specs.Rules.{suffices, leads_on, is_jump, target_at};
 ghost use Rattle.check_heights.specs.Answer.{HeightsPre, HeightsPost, FlawPost};
 ghost use Rattle.check_heights.specs.Links.{Whole, popped_at, height_limit, AfterPre, AfterPost};
@@ -11,28 +11,13 @@ ghost use Rattle.check_heights.specs.Links.{SendPre, SendPost, EnterPre, EnterPo
 use check_code::{first_at, next_at, second_at};
 use opcode::{popped, pushes};
 
-// The greatest height of a function, or that it breaks the rule.
-#[derive(Clone, Copy)]
-pub enum Height {
-    Greatest(u32),
-    Broken,
-}
-
 // What breaks the rule: an instruction at a position that is reached with a height that does not suffice; a position that is reached with two heights; or
 // the end of a function other than main, reached with a height.
 #[derive(Clone, Copy)]
 pub enum Flaw {
-    Nothing,
     Lacks(usize, u32),
     Differs(usize, u32, u32),
     Ends(u32),
-}
-
-// The greatest height that was seen, or what breaks the rule.
-#[derive(Clone, Copy)]
-enum Seen {
-    Greatest(u32),
-    Flawed(Flaw),
 }
 
 // The opcodes that the rule names.
@@ -108,50 +93,47 @@ fn target_at(code: &[u8], i: usize) -> usize
 }
 
 // Height g is put at position j, unless another is known there.
-fn put(j: usize, g: u32, table: &mut [u32]) -> Flaw
+fn put(j: usize, g: u32, table: &mut [u32]) -> Result<(), Flaw>
     requires { (j < length table.old) × (g ≤ suc height_limit) }
     ensures { SendPost true j g table.old result table.new }
 {
     let held = table[j];
     if held == 0 {
         table[j] = g + 1;
-        return Flaw::Nothing;
+        return Ok(());
     }
     if held == g + 1 {
-        return Flaw::Nothing;
+        return Ok(());
     }
-    Flaw::Differs(j, held - 1, g)
+    Err(Flaw::Differs(j, held - 1, g))
 }
 
 // The same, if go.
-fn send(go: bool, j: usize, g: u32, table: &mut [u32]) -> Flaw
+fn send(go: bool, j: usize, g: u32, table: &mut [u32]) -> Result<(), Flaw>
     requires { SendPre go j g table.old }
     ensures { SendPost go j g table.old result table.new }
 {
     if go {
         return put(j, g, table);
     }
-    Flaw::Nothing
+    Ok(())
 }
 
 // Height g is put wherever the instruction at i goes, unless another is known at one of these positions.
-fn enter(main: bool, code: &[u8], i: usize, g: u32, table: &mut [u32]) -> Flaw
+fn enter(main: bool, code: &[u8], i: usize, g: u32, table: &mut [u32]) -> Result<(), Flaw>
     requires { EnterPre code.now i g table.old }
     ensures { EnterPost main code.now i g table.old result table.new }
 {
     let on = leads_on(main, code, i);
     let next = next_at(code, i);
-    let went = send(on, next, g, table);
-    if let Flaw::Nothing = went {
-        let jumps = is_jump(code, i);
-        let target = target_at(code, i);
-        return send(jumps, target, g, table);
-    }
-    went
+    send(on, next, g, table)?;
+    let jumps = is_jump(code, i);
+    let target = target_at(code, i);
+    send(jumps, target, g, table)
 }
 
 // The instruction at i, reached with height h, which may not be enough, or bring a second height to a position.
-fn visit(main: bool, code: &[u8], i: usize, h: u32, table: &mut [u32]) -> Flaw
+fn visit(main: bool, code: &[u8], i: usize, h: u32, table: &mut [u32]) -> Result<(), Flaw>
     requires { VisitPre code.now i h table.old }
     ensures { VisitPost main code.now i h table.old result table.new }
 {
@@ -160,61 +142,33 @@ fn visit(main: bool, code: &[u8], i: usize, h: u32, table: &mut [u32]) -> Flaw
         let g = height_after(code, i, h);
         return enter(main, code, i, g, table);
     }
-    Flaw::Lacks(i, h)
-}
-
-fn larger_of(a: u32, b: u32) -> u32
-    ensures { result ≡ max a b }
-{
-    if a < b {
-        return b;
-    }
-    a
+    Err(Flaw::Lacks(i, h))
 }
 
 // Position i: it is visited if a path has come to it. The greatest height so far is top.
-fn turn(main: bool, code: &[u8], i: usize, top: u32, table: &mut [u32]) -> Seen
+fn turn(main: bool, code: &[u8], i: usize, top: u32, table: &mut [u32]) -> Result<u32, Flaw>
     requires { TurnPre code.now i table.old }
     ensures { TurnPost main code.now i top table.old result table.new }
 {
     let known = table[i];
     if known == 0 {
-        return Seen::Greatest(top);
+        return Ok(top);
     }
     let h = known - 1;
-    let flaw = visit(main, code, i, h, table);
-    if let Flaw::Nothing = flaw {
-        return Seen::Greatest(larger_of(top, h));
-    }
-    Seen::Flawed(flaw)
+    visit(main, code, i, h, table)?;
+    Ok(top.max(h))
 }
 
 // The positions in order. Paths lead forwards alone, so that at its turn all heights of a position are known.
-fn scan(main: bool, count: u32, code: &[u8], table: &mut [u32]) -> Seen
+fn scan(main: bool, count: u32, code: &[u8], table: &mut [u32]) -> Result<u32, Flaw>
     requires { ScanPre main count code.now table.old }
     ensures { ScanPost main count code.now result table.new }
 {
     let mut top = count;
-    let mut i = 0;
-    while i < code.len() {
-        let seen = turn(main, code, i, top, table);
-        let Seen::Greatest(next) = seen else {
-            return seen;
-        };
-        top = next;
-        i += 1;
+    for i in 0..code.len() {
+        top = turn(main, code, i, top, table)?;
     }
-    Seen::Greatest(top)
-}
-
-fn clear(table: &mut [u32])
-    ensures { table.new ≡ replicate (length table.old) 0 }
-{
-    let mut i = 0;
-    while i < table.len() {
-        table[i] = 0;
-        i += 1;
-    }
+    Ok(top)
 }
 
 // The table in which only the start is known, with the count of arguments.
@@ -222,59 +176,50 @@ fn prepare(count: u32, table: &mut [u32])
     requires { (count < 65536) × (0 < length table.old) }
     ensures { table.new ≡ prepared count (length table.old) }
 {
-    clear(table);
+    table.fill(0);
     table[0] = count + 1;
 }
 
 // The end, at position n: a path may come to it in main alone.
-fn finish(main: bool, top: u32, n: usize, table: &[u32]) -> Seen
+fn finish(main: bool, top: u32, n: usize, table: &[u32]) -> Result<u32, Flaw>
     requires { n < length table.now }
     ensures { result ≡ finished main top (get_or table.now n 0) }
 {
     let last = table[n];
     if last == 0 {
-        return Seen::Greatest(top);
+        return Ok(top);
     }
     if main {
-        return Seen::Greatest(larger_of(top, last - 1));
+        return Ok(top.max(last - 1));
     }
-    Seen::Flawed(Flaw::Ends(last - 1))
+    Err(Flaw::Ends(last - 1))
 }
 
 // The pass over a table of which every word is cleared.
-fn pass(main: bool, count: u32, code: &[u8], table: &mut [u32]) -> Seen
+fn pass(main: bool, count: u32, code: &[u8], table: &mut [u32]) -> Result<u32, Flaw>
     requires { HeightsPre main count code.now table.old }
     ensures { PassPost main count code.now result }
 {
     prepare(count, table);
-    let seen = scan(main, count, code, table);
-    let Seen::Greatest(top) = seen else {
-        return seen;
-    };
+    let top = scan(main, count, code, table)?;
     finish(main, top, code.len(), table)
 }
 
 // The greatest height of a function whose code is whole and whose jumps land, if each reached position has one height that suffices there.
 // Of the table only the words of the code's positions are written, so the cost goes by the code.
-pub fn heights(main: bool, count: u32, code: &[u8], table: &mut [u32]) -> Height
+pub fn heights(main: bool, count: u32, code: &[u8], table: &mut [u32]) -> Option<u32>
     requires { HeightsPre main count code.now table.old }
     ensures { HeightsPost main count code.now result }
 {
     let n = code.len() + 1;
-    match pass(main, count, code, &mut table[..n]) {
-        Seen::Greatest(m) => Height::Greatest(m),
-        Seen::Flawed(_) => Height::Broken,
-    }
+    pass(main, count, code, &mut table[..n]).ok()
 }
 
-// What breaks the rule in such a function, if anything does.
-pub fn flaw_in(main: bool, count: u32, code: &[u8], table: &mut [u32]) -> Flaw
+// What breaks the rule in such a function, if anything does: `heights` and this are the two sides of one pass.
+pub fn flaw_in(main: bool, count: u32, code: &[u8], table: &mut [u32]) -> Option<Flaw>
     requires { HeightsPre main count code.now table.old }
     ensures { FlawPost main count code.now result }
 {
     let n = code.len() + 1;
-    match pass(main, count, code, &mut table[..n]) {
-        Seen::Greatest(_) => Flaw::Nothing,
-        Seen::Flawed(x) => x,
-    }
+    pass(main, count, code, &mut table[..n]).err()
 }

@@ -1,26 +1,30 @@
 -- Rule 4: the Calls of all functions entered into the tally, and what its entries then say.
+use Rattle.std.specs.List.{position, position_or_len}
+use Rattle.std.specs.Option.{unwrap_or}
+use Rattle.std.proofs.Common.{Option}
+use Rattle.std.proofs.lemmas.List.{get_or-take}
+use Rattle.std.proofs.lemmas.List.Sums.{prefix_len-le-length, fails_before_first, passes_at_first}
 use mathlib.Core.Path.{◌≡◌, refl, sym, ap, subst, ◌∙◌}
-use mathlib.Core.Bool.{true≢false}
+use mathlib.Core.Bool.{Bool, true≢false}
 use mathlib.Core.List.{List, [], ◌∷◌, ◌++◌, append_assoc, append-nil}
-use mathlib.Core.Logic.{⊎_elim}
 use Prim.Native.Nat.{ℕ, zero, suc, ◌+◌, ◌-◌, ◌≤◌, ◌<◌}
 use native.Mathlib.Omega.{arith}
-use native.Mathlib.Nat.{eq-or-lt_of_le}
-use lib.Dec.{eqb}
+use lib.Dec.{eqb, ltb}
 use lib.ListN.{length, get_or, take, drop, replicate}
-use lib.Seq.{take-length}
+use lib.Seq.{length-take-le}
+use borrow.Author.Tests.{ltb-false, eqb-true, eqb-false}
+use Rattle.layout.proofs.Bools.{either_way}
 use Rattle.model.specs.Programs.{Function, Program, function_at, stands}
 use Rattle.image_judge.specs.declared.Sizes.{Sizes}
 use Rattle.image_codes.specs.declared.Code.{Code}
 use Rattle.image_codes.specs.Links.{CodePost, Ready}
-use Rattle.image_load.proofs.Loads.{fine_one}
 use Rattle.check_rules.specs.declared.Rule.TheVariants as r
 use Rattle.check_rules.specs.Rules.{Site, calls_at, calls_in, count_of, code_of, Keeps}
 use Rattle.check_code.specs.Tallies.{tallied}
 use Rattle.check_code.specs.Links.{Enters}
 use Rattle.check_code.proofs.Counting.{tallied_behind, one_exactly, other_keeps}
-use Rattle.check_image.specs.Links.{Tallied, TalliedPost, CountsPost}
-use Rattle.check_image.proofs.Judged.{Sofar, program_of, none_yet, inside, its_code, one_more}
+use Rattle.check_image.specs.Links.{Tallied, CountsPost}
+use Rattle.check_image.proofs.Judged.{Sofar, program_of, none_yet, its_code, one_more}
 
 -- the Calls of one function more
 calls_onward : (fs : List Function) (i : ℕ) → i < length fs
@@ -60,9 +64,6 @@ no_calls_yet s z counts e = record {
 }
 
 module _ {s : List ℕ} {z : Sizes} {before : List ℕ} {f at : ℕ} {counts : List ℕ} (a : Counts s z before f at counts) where
-  pub tally_inside : Ready s z → at ≤ length s
-  tally_inside h = inside _ h (a.tally h).sofar
-
   pub calls_entered : f < z.functions → {c : Code} → CodePost (eqb f 0) s at c → {counts' : List ℕ}
       → Enters (take (c.from + c.size - c.from) (drop c.from s)) (stands (take (c.from + c.size - c.from) (drop c.from s))) counts counts'
       → length counts' ≡ length counts → Counts s z before (f + 1) c.next counts'
@@ -87,39 +88,37 @@ module _ {s : List ℕ} {z : Sizes} {before : List ℕ} {f at : ℕ} {counts : L
             few = λ g. e.few g (t.few g);
           }
 
-  pub all_calls_entered : Ready s z → z.functions ≤ f → TalliedPost s counts
-  all_calls_entered h l = record {
-    tallies = λ p e.
-        let t = a.tally h in
-        let many = h.says.sizes.functions in
-        let last : f ≡ length (program_of h).functions = let most = t.sofar.most in omega arith in
-        let whole : take f (program_of h).functions ≡ (program_of h).functions = rw last (take-length (program_of h).functions) in
-        let here : Tallied (program_of h) counts =
-        record { each = λ g. t.each g ∙ ap (λ (fs : List Function). tallied g 0 (calls_in fs)) whole; few = t.few } in
-        subst (λ (q : Program). Tallied q counts) (fine_one h.says.judged e) here;
-  }
-
 -- ---- the lowest function whose Calls differ
 
-pub record Same (n : ℕ) (counts : List ℕ) (f : ℕ) : Type 0 where
-  pub kept : (g : ℕ) → g < f → get_or counts g 0 ≡ 1 → ⊥
-  pub most : f ≤ n
+module _ (n : ℕ) (counts : List ℕ) (room : n ≤ length counts) where
+  abbrev differs : ℕ → Bool
+  differs x = eqb x 1
 
-pub none_differs_yet : (n : ℕ) (counts : List ℕ) → Same n counts 0
-none_differs_yet n counts = record { kept = λ g l. absurd (let z : ⊥ = omega arith in z); most = omega arith }
+  abbrev first_one : ℕ
+  first_one = position_or_len differs (take n counts)
 
-module _ {n : ℕ} {counts : List ℕ} {f : ℕ} (a : Same n counts f) where
-  pub one_differs : get_or counts f 0 ≡ 1 → CountsPost n counts f
-  one_differs e = record { lowest = record { lower = a.kept; breaks = λ l h. h e; most = a.most } }
+  entry_at : (g : ℕ) → g < n → get_or (take n counts) g 0 ≡ get_or counts g 0
+  entry_at g l = get_or-take n counts g 0 l
 
-  pub one_is_same : f < n → (get_or counts f 0 ≡ 1 → ⊥) → Same n counts (f + 1)
-  one_is_same l h = record {
-    kept = λ g m. ⊎_elim (λ e. rw e h) (λ k. a.kept g k) (eq-or-lt_of_le (let y : g ≤ f = omega arith in y));
-    most = omega arith;
-  }
+  lowest_here : CountsPost n counts first_one
+  lowest_here =
+      let many = length-take-le n counts room in let most : first_one ≤ length (take n counts) = prefix_len-le-length _ (take n counts) in
+      record {
+        lowest = record {
+          lower = λ g l e. eqb-false _ _ (fails_before_first differs (take n counts) g 0 l) (entry_at g (omega arith) ∙ e);
+          breaks = λ l h. h (sym (entry_at first_one l) ∙ eqb-true _ _ (passes_at_first differs (take n counts) 0 (omega arith)));
+          most = omega arith;
+        };
+      }
 
-  pub all_are_same : n ≤ f → CountsPost n counts f
-  all_are_same l = record { lowest = record { lower = a.kept; breaks = λ m. absurd (let z : ⊥ = omega arith in z); most = a.most } }
+  pub lowest_found : (o : Option ℕ) (f : ℕ) → o ≡ position differs (take n counts) → f ≡ unwrap_or o n → CountsPost n counts f
+  lowest_found o f eo ef = subst (CountsPost n counts) (sym is) lowest_here
+    where
+      is : f ≡ first_one
+      is = either_way (ltb first_one (length (take n counts))) (λ x. ef ∙ rw (eo, x))
+          (λ x.
+          let many = length-take-le n counts room in let most : first_one ≤ length (take n counts) = prefix_len-le-length _ (take n counts) in
+          let y = ltb-false _ _ x in let z : n ≡ first_one = omega arith in ef ∙ rw (eo, x) z)
 
 -- what the tally says of rule 4
 module _ (p : Program) (counts : List ℕ) (t : Tallied p counts) where

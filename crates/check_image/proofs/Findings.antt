@@ -14,13 +14,10 @@ use Rattle.check_rules.specs.declared.Rule.{Rule}
 use Rattle.check_rules.specs.declared.Rule.TheVariants as r
 use Rattle.check_rules.specs.Rules.{Keeps, rule_number, KeptByAll, Broken}
 use Rattle.check_rules.proofs.One.{one_number}
-use Rattle.check_image.specs.declared.passes.Pass.{Pass}
-use Rattle.check_image.specs.declared.passes.Pass.TheVariants as w
-use Rattle.check_image.specs.declared.passes.Finding.{Finding}
-use Rattle.check_image.specs.declared.passes.Finding.TheVariants as finding
-use Rattle.check_image.specs.Links.{rule_of, Lowest, LowestPost, Tallied, TalliedPost, CountsPost, Measurable, Measured, MeasuredPost}
-use Rattle.check_image.specs.Links.{KeptBelow, FoundBelow, BelowPost, LinksPost, AllKept, FindingPost}
+use Rattle.check_image.specs.Links.{Lowest, Tallied, TalliedPost, CountsPost, Measurable, Measured, MeasuredPost}
+use Rattle.check_image.specs.Links.{KeptBelow, BelowPost, LinksPost, AllKept, FindingPost}
 use Rattle.check_image.proofs.Counting.{entry_keeps, entry_breaks}
+use Rattle.std.specs.Prelude.{Err, Ok, Result}
 
 -- ---- the order of the rules
 
@@ -61,22 +58,12 @@ module _ {p : Program} {k : ℕ} (a : KeptBelow p k) (q : Rule) (n : rule_number
 
 -- ---- what was found, and is told
 
-not_nothing : {q : Rule} {f : ℕ} → finding.Breaks q f ≡ finding.Nothing → ⊥
+not_nothing : {x : Rule × ℕ} → ◌≡◌ {A = Result Unit (Rule × ℕ)} (Err x) (Ok tt) → ⊥
 not_nothing e = let z : ◌≡◌ {A = ℕ} 0 1 = cc in omega arith
 
 -- a broken rule is told as it was found
-pub as_found : {k : ℕ} {s : List ℕ} {x : Finding} → BelowPost k s x → {q : Rule} {f : ℕ} → x ≡ finding.Breaks q f → {hs : List ℕ} → FindingPost s x hs
-as_found {k} b {q} {f} e = record { finds = λ p j. rw e (subst (λ (y : Finding). FoundBelow k p y) e (b.finds p j)) }
-
-pub links_found : {s : List ℕ} {z : Sizes} {x : Finding} {counts : List ℕ} → LinksPost s z x counts → {q : Rule} {f : ℕ} → x ≡ finding.Breaks q f → FindingPost s x counts
-links_found b e = as_found b.found e
-
--- nothing was found
-pub nothing_below : {k : ℕ} {s : List ℕ} {x : Finding} → BelowPost k s x → x ≡ finding.Nothing → BelowPost k s finding.Nothing
-nothing_below b e = rw e at b
-
-pub nothing_linked : {s : List ℕ} {z : Sizes} {x : Finding} {counts : List ℕ} → LinksPost s z x counts → x ≡ finding.Nothing → LinksPost s z finding.Nothing counts
-nothing_linked b e = rw e at b
+as_found : {k : ℕ} {s : List ℕ} {x : Rule × ℕ} → BelowPost k s (Err x) → {hs : List ℕ} → FindingPost s (Err x) hs
+as_found {x = (q, f)} b = record { finds = λ p j. b.finds p j }
 
 -- ---- one after the other
 
@@ -87,35 +74,33 @@ module _ (s : List ℕ) (z : Sizes) (h : Ready s z) where
   many : z.functions ≡ length p.functions
   many = h.says.sizes.functions
 
-  found : (k : ℕ) {q : Rule} {f : ℕ} → Broken p q f → BelowPost k s (finding.Breaks q f)
+  found : (k : ℕ) {q : Rule} {f : ℕ} → Broken p q f → BelowPost k s (Err (q, f))
   found k {q} {f} b = record { finds = λ x e. subst (λ (y : Program). Broken y q f) (fine_one h.says.judged e) b }
 
-  none_found : {k : ℕ} → KeptBelow p k → BelowPost k s finding.Nothing
+  none_found : {k : ℕ} → KeptBelow p k → BelowPost k s (Ok tt)
   none_found {k} a = record { finds = λ x e. subst (λ (y : Program). KeptBelow y k) (fine_one h.says.judged e) a }
 
   -- before the first rule none is broken
-  pub begins : BelowPost 1 s finding.Nothing
+  pub begins : BelowPost 1 s (Ok tt)
   begins = none_found (at_first p)
 
-  so_far : {k : ℕ} → BelowPost k s finding.Nothing → KeptBelow p k
+  so_far : {k : ℕ} → BelowPost k s (Ok tt) → KeptBelow p k
   so_far a = a.finds h.says.program h.says.judged
 
-  module _ {k : ℕ} (a : BelowPost k s finding.Nothing) (pass : Pass) (n : rule_number (rule_of pass) ≡ k) {f : ℕ} (low : LowestPost pass s f) where
-    lowest : Lowest (Keeps p (rule_of pass)) (length p.functions) f
-    lowest = low.lowest h.says.program h.says.judged
+  -- a rule of its own
+  module _ (q : Rule) (a : BelowPost (rule_number q) s (Ok tt)) where
+    pub stops_here : {f : ℕ} → Lowest (Keeps p q) (length p.functions) f → f < z.functions → BelowPost (suc (rule_number q)) s (Err (q, f))
+    stops_here low l = let e = many in found (suc (rule_number q)) (breaks_first (so_far a) q refl low (omega arith))
 
-    pub stops_here : f < z.functions → (m : ℕ) → BelowPost m s (finding.Breaks (rule_of pass) f)
-    stops_here l m = let e = many in found m (breaks_first (so_far a) (rule_of pass) n lowest (omega arith))
-
-    pub goes_on_lem : z.functions ≤ f → BelowPost (suc k) s finding.Nothing
-    goes_on_lem l = let e = many in none_found (one_later (so_far a) (rule_of pass) n (kept_by_all (so_far a) (rule_of pass) n lowest (omega arith)))
+    pub goes_on_lem : KeptByAll p q → BelowPost (suc (rule_number q)) s (Ok tt)
+    goes_on_lem all = none_found (one_later (so_far a) q refl all)
 
   -- rules 4 and 5
-  module _ (a : BelowPost 4 s finding.Nothing) {counts : List ℕ} (t : TalliedPost s counts) {f : ℕ} (c : CountsPost z.functions counts f) where
+  module _ (a : BelowPost 4 s (Ok tt)) {counts : List ℕ} (t : TalliedPost s counts) {f : ℕ} (c : CountsPost z.functions counts f) where
     tally : Tallied p counts
     tally = t.tallies h.says.program h.says.judged
 
-    pub counts_stop : f < z.functions → LinksPost s z (finding.Breaks r.Counts f) counts
+    pub counts_stop : f < z.functions → LinksPost s z (Err (r.Counts, f)) counts
     unfolding rule_number
     counts_stop l =
         let m = many in
@@ -133,35 +118,30 @@ module _ (s : List ℕ) (z : Sizes) (h : Ready s z) where
       counts_same : (g : ℕ) → g < length p.functions → get_or counts g 0 ≡ 1 → ⊥
       counts_same g k = let m = many in c.lowest.lower g (omega arith)
 
-      counts_go_on : BelowPost 5 s finding.Nothing
+      pub counts_go_on : BelowPost 5 s (Ok tt)
       unfolding rule_number
       counts_go_on = none_found (one_later (so_far a) r.Counts refl (λ g k. entry_keeps p counts tally g (counts_same g k)))
 
-      module _ {g : ℕ} (low : LowestPost w.Jumps s g) where
-        pub jumps_stop : g < z.functions → LinksPost s z (finding.Breaks r.Jumps g) counts
-        unfolding rule_number rule_of
-        jumps_stop m = record { found = stops_here counts_go_on w.Jumps refl low m 6; tally = λ e. absurd (not_nothing e) }
-
-        -- rules 1, 4 and 5 are kept by all
-        pub links_kept : z.functions ≤ g → length counts ≡ 65536 → LinksPost s z finding.Nothing counts
-        unfolding rule_number rule_of
-        links_kept m room =
-            let below = goes_on_lem counts_go_on w.Jumps refl low m in
+      -- where rule 5 is kept as well, so are rules 1, 4 and 5
+      pub links_told : {x : Result Unit (Rule × ℕ)} → BelowPost 6 s x → length counts ≡ 65536 → LinksPost s z x counts
+      unfolding rule_number
+      links_told {x} below room = record {
+        found = below;
+        tally = λ e.
+            let all = so_far (subst (λ (y : Result Unit (Rule × ℕ)). BelowPost 6 s y) e below) in
             record {
-              found = below;
-              tally = λ e. record {
-                ready = h;
-                room = room;
-                tallies = tally;
-                differ = counts_same;
-                whole = (so_far below).kept r.Instructions (omega arith);
-                landing = (so_far below).kept r.Jumps (omega arith);
-              };
-            }
+              ready = h;
+              room = room;
+              tallies = tally;
+              differ = counts_same;
+              whole = all.kept r.Instructions (omega arith);
+              landing = all.kept r.Jumps (omega arith);
+            };
+      }
 
 -- ---- rule 6
 
-module _ {s : List ℕ} {z : Sizes} {counts : List ℕ} (a : LinksPost s z finding.Nothing counts) where
+module _ {s : List ℕ} {z : Sizes} {counts : List ℕ} (a : LinksPost s z (Ok tt) counts) where
   pub can_be_measured : Measurable s z counts
   can_be_measured = a.tally refl
 
@@ -172,13 +152,13 @@ module _ {s : List ℕ} {z : Sizes} {counts : List ℕ} (a : LinksPost s z findi
     measured : Measured (p s z ready) hs f
     measured = m.measures ready.says.program ready.says.judged
 
-    pub heights_stop : f < z.functions → FindingPost s (finding.Breaks r.Heights f) hs
+    pub heights_stop : f < z.functions → FindingPost s (Err (r.Heights, f)) hs
     unfolding rule_number
     heights_stop l =
         let n = many s z ready in
-        as_found (found s z ready 7 (breaks_first (so_far s z ready a.found) r.Heights refl measured.lowest (omega arith))) refl
+        as_found (found s z ready 7 (breaks_first (so_far s z ready a.found) r.Heights refl measured.lowest (omega arith)))
 
-    pub nothing_broken : z.functions ≤ f → FindingPost s finding.Nothing hs
+    pub nothing_broken : z.functions ≤ f → FindingPost s (Ok tt) hs
     unfolding rule_number
     nothing_broken l =
         let n = many s z ready in

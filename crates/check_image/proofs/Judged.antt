@@ -16,12 +16,11 @@ use Rattle.image_judge.proofs.Items.{part_slice}
 use Rattle.image_codes.specs.declared.Code.{Code}
 use Rattle.image_codes.specs.Links.{CodePost, Ready, From}
 use Rattle.image_codes.proofs.Along.{Next, first_function, next_function}
-use Rattle.image_load.proofs.Loads.{fine_one}
-use Rattle.check_rules.specs.Rules.{whole_at, call_at, jump_at, every, code_of, Keeps}
+use Rattle.check_rules.specs.Rules.{whole_at, call_at, jump_at, every, code_of, Keeps, KeptByAll}
 use Rattle.check_code.specs.Links.{Sized, NumbersAll}
-use Rattle.check_image.specs.declared.passes.Pass.{Pass}
-use Rattle.check_image.specs.declared.passes.Pass.TheVariants as w
-use Rattle.check_image.specs.Links.{Tells, rule_of, KeepsPost, Lowest, LowestPost}
+use Rattle.check_rules.specs.declared.Rule.{Rule}
+use Rattle.check_rules.specs.declared.Rule.TheVariants as r
+use Rattle.check_image.specs.Links.{Tells, KeepsPost, Lowest}
 
 -- ---- one function
 
@@ -30,24 +29,24 @@ tells true c e = sym e
 tells false c e = λ t. true≢false (sym (e ∙ t))
 
 module _ (main : Bool) (code : List ℕ) (z : Sizes) (b : Bool) where
-  pub whole_tells : b ≡ every (whole_at code) (stands code) → KeepsPost w.Instructions main code z b
-  unfolding rule_of Keeps
+  pub whole_tells : b ≡ every (whole_at code) (stands code) → KeepsPost r.Instructions main code z b
+  unfolding Keeps
   whole_tells e = record { tells = λ p k f m c. rw c (tells b _ e) }
 
-  pub numbers_tell : NumbersAll z.constants z.structs z.functions code b → KeepsPost w.Numbers main code z b
-  unfolding rule_of Keeps
+  pub numbers_tell : NumbersAll z.constants z.structs z.functions code b → KeepsPost r.Numbers main code z b
+  unfolding Keeps
   numbers_tell n = record {
     tells = λ p k f m c.
         let sized : Sized z.constants z.structs z.functions p = record { of_constants = sym k.constants; of_structs = sym k.structs; of_functions = sym k.functions } in
         rw c (tells b _ (n.means p sized));
   }
 
-  pub calls_tell : b ≡ every (call_at code) (stands code) → KeepsPost w.Calls main code z b
-  unfolding rule_of Keeps
+  pub calls_tell : b ≡ every (call_at code) (stands code) → KeepsPost r.Calls main code z b
+  unfolding Keeps
   calls_tell e = record { tells = λ p k f m c. rw c (tells b _ e) }
 
-  pub jumps_tell : b ≡ every (jump_at main code) (stands code) → KeepsPost w.Jumps main code z b
-  unfolding rule_of Keeps
+  pub jumps_tell : b ≡ every (jump_at main code) (stands code) → KeepsPost r.Jumps main code z b
+  unfolding Keeps
   jumps_tell e = record { tells = λ p k f m c. rw (c, m) (tells b _ e) }
 
 -- ---- all functions
@@ -89,14 +88,6 @@ module _ (Q : ℕ → Type 0) {s : List ℕ} {z : Sizes} (h : Ready s z) where
   none_yet = record { from = first_function s z h.says; kept = λ g l. absurd (let x : ⊥ = omega arith in x); most = omega arith }
 
   module _ {f at : ℕ} (a : Sofar Q (program_of h) s f at) where
-    pub inside : at ≤ length s
-    inside = a.from.read.ahead
-
-    pub all_looked_at : z.functions ≤ f → Lowest Q (length (program_of h).functions) f
-    all_looked_at l =
-        let many = h.says.sizes.functions in
-        record { lower = a.kept; breaks = λ m. absurd (let x : ⊥ = omega arith in x); most = a.most }
-
     module _ (l : f < z.functions) {c : Code} (post : CodePost (eqb f 0) s at c) where
       known : f < length (program_of h).functions
       known = let many = h.says.sizes.functions in omega arith
@@ -124,41 +115,34 @@ module _ (Q : ℕ → Type 0) {s : List ℕ} {z : Sizes} (h : Ready s z) where
             most = let k = known in omega arith;
           })
 
--- ---- the rules that every instruction keeps or breaks by itself
+-- ---- a rule that each function keeps or breaks by itself
 
 -- whatever is known of the image, the functions below f keep the rule
-pub record Looking (pass : Pass) (s : List ℕ) (z : Sizes) (before marks : List ℕ) (f at : ℕ) : Type 0 where
-  pub sofar : (h : Ready s z) → Sofar (Keeps (program_of h) (rule_of pass)) (program_of h) s f at
+pub record Looking (q : Rule) (s : List ℕ) (z : Sizes) (before marks : List ℕ) (f at : ℕ) : Type 0 where
+  pub sofar : (h : Ready s z) → Sofar (Keeps (program_of h) q) (program_of h) s f at
   pub same : length marks ≡ length before
 
-pub first_look : (pass : Pass) (s : List ℕ) (z : Sizes) (marks : List ℕ) → Looking pass s z marks marks 0 z.first
-first_look pass s z marks = record { sofar = λ h. none_yet _ h; same = refl }
+pub first_look : (q : Rule) (s : List ℕ) (z : Sizes) (marks : List ℕ) → Looking q s z marks marks 0 z.first
+first_look q s z marks = record { sofar = λ h. none_yet _ h; same = refl }
 
-module _ {pass : Pass} {s : List ℕ} {z : Sizes} {before marks : List ℕ} {f at : ℕ} (a : Looking pass s z before marks f at) where
-  lowest_of : (h : Ready s z) → Lowest (Keeps (program_of h) (rule_of pass)) (length (program_of h).functions) f → LowestPost pass s f
-  lowest_of h k = record {
-    lowest = λ p e. subst (λ (q : Program). Lowest (Keeps q (rule_of pass)) (length q.functions) f) (fine_one h.says.judged e) k;
-  }
-
-  pub look_inside : Ready s z → at ≤ length s
-  look_inside h = inside _ h (a.sofar h)
-
-  pub kept_by_all : Ready s z → z.functions ≤ f → LowestPost pass s f
-  kept_by_all h l = lowest_of h (all_looked_at _ h (a.sofar h) l)
+module _ {q : Rule} {s : List ℕ} {z : Sizes} {before marks : List ℕ} {f at : ℕ} (a : Looking q s z before marks f at) where
+  -- all were looked at
+  pub all_keep : (h : Ready s z) → z.functions ≤ f → KeptByAll (program_of h) q
+  all_keep h l = λ g k. let many = h.says.sizes.functions in (a.sofar h).kept g (omega arith)
 
   module _ (l : f < z.functions) {c : Code} (post : CodePost (eqb f 0) s at c) where
     pub code_fits : Ready s z → 65536 ≤ length before → length (take (c.from + c.size - c.from) (drop c.from s)) < length marks
     code_fits h room = let size = its_size _ h (a.sofar h) l post in let n = a.same in omega arith
 
-    module _ {b : Bool} (k : KeepsPost pass (eqb f 0) (take (c.from + c.size - c.from) (drop c.from s)) z b) where
-      verdict : (h : Ready s z) → Tells b (Keeps (program_of h) (rule_of pass) f)
+    module _ {b : Bool} (k : KeepsPost q (eqb f 0) (take (c.from + c.size - c.from) (drop c.from s)) z b) where
+      verdict : (h : Ready s z) → Tells b (Keeps (program_of h) q f)
       verdict h = k.tells (program_of h) h.says.sizes f refl (its_code _ h (a.sofar h) l post)
 
-      pub broken_by_one : Ready s z → b ≡ false → LowestPost pass s f
-      broken_by_one h e = lowest_of h (one_breaks _ h (a.sofar h) l post (subst (λ (x : Bool). Tells x (Keeps (program_of h) (rule_of pass) f)) e (verdict h)))
+      pub broken_by_one : (h : Ready s z) → b ≡ false → Lowest (Keeps (program_of h) q) (length (program_of h).functions) f
+      broken_by_one h e = one_breaks _ h (a.sofar h) l post (subst (λ (x : Bool). Tells x (Keeps (program_of h) q f)) e (verdict h))
 
-      pub kept_by_one : b ≡ true → {marks' : List ℕ} → length marks' ≡ length marks → Looking pass s z before marks' (f + 1) c.next
+      pub kept_by_one : b ≡ true → {marks' : List ℕ} → length marks' ≡ length marks → Looking q s z before marks' (f + 1) c.next
       kept_by_one e n = record {
-        sofar = λ h. one_more _ h (a.sofar h) l post (subst (λ (x : Bool). Tells x (Keeps (program_of h) (rule_of pass) f)) e (verdict h));
+        sofar = λ h. one_more _ h (a.sofar h) l post (subst (λ (x : Bool). Tells x (Keeps (program_of h) q f)) e (verdict h));
         same = n ∙ a.same;
       }

@@ -5,7 +5,6 @@ pub mod Counting
 pub mod Measures
 -- all rules in their order, and the entry
 pub mod Findings
-pub mod Putting
 pub mod Entries
 -- what breaks the rule of heights
 pub mod Seeking

@@ -17,11 +17,10 @@ use Rattle.image_load.proofs.Loads.{fine_one}
 use Rattle.check_rules.specs.declared.Rule.TheVariants as r
 use Rattle.check_rules.specs.Rules.{whole_at, jump_at, calls_in, count_of, every, code_of, is_main, Heights, Greatest, Keeps}
 use Rattle.check_code.proofs.Counting.{other_counts}
-use Rattle.check_heights.specs.declared.Height.{Height}
-use Rattle.check_heights.specs.declared.Height.TheVariants as a
 use Rattle.check_heights.specs.Answer.{HeightsPre, HeightsMeans, HeightsPost}
 use Rattle.check_image.specs.Links.{Lowest, Measurable, GreatestBelow, Measured, MeasuredPost}
-use Rattle.check_image.proofs.Judged.{few_functions, Sofar, none_yet, inside, its_code, its_size, one_breaks, one_more, all_looked_at}
+use Rattle.check_image.proofs.Judged.{few_functions, Sofar, none_yet, its_code, its_size, one_breaks, one_more}
+use Rattle.std.specs.Prelude.{None, Option, Some}
 
 -- below f the greatest heights stand, from f on the tally's entries
 pub record Measuring (p : Program) (s : List ℕ) (f at : ℕ) (tally now : List ℕ) : Type 0 where
@@ -53,9 +52,6 @@ module _ {s : List ℕ} {z : Sizes} {tally : List ℕ} (m : Measurable s z tally
   p = m.ready.says.program
 
   module _ {f at : ℕ} {now : List ℕ} (t : Measuring p s f at tally now) where
-    pub measure_inside : at ≤ length s
-    measure_inside = inside _ m.ready t.sofar
-
     pub entry_there : f < z.functions → z.functions ≤ 65536 → f < length now
     entry_there l few = let n = t.same in let k = m.room in omega arith
 
@@ -63,9 +59,6 @@ module _ {s : List ℕ} {z : Sizes} {tally : List ℕ} (m : Measurable s z tally
     result hs l g = record {
       measures = λ q e. subst (λ (x : Program). Measured x hs f) (fine_one m.ready.says.judged e) (record { lowest = l; greatest = g });
     }
-
-    pub all_measured : z.functions ≤ f → MeasuredPost s now f
-    all_measured l = result now (all_looked_at _ m.ready t.sofar l) t.greatest
 
     module _ (l : f < z.functions) {c : Code} (post : CodePost (eqb f 0) s at c) {count : ℕ} (told : count ≡ get_or now f 0 - 2) where
       abbrev slice : List ℕ
@@ -99,18 +92,18 @@ module _ {s : List ℕ} {z : Sizes} {tally : List ℕ} (m : Measurable s z tally
             room = omega arith;
           }
 
-      module _ {h : Height} (answer : HeightsPost (eqb f 0) count slice h) where
-        pub one_uneven : h ≡ a.Broken → MeasuredPost s now f
+      module _ {h : Option ℕ} (answer : HeightsPost (eqb f 0) count slice h) where
+        pub one_uneven : h ≡ None → MeasuredPost s now f
         unfolding Keeps
         one_uneven e =
-            let no : Heights (eqb f 0) count slice → ⊥ = subst (λ (x : Height). HeightsMeans x (eqb f 0) count slice) e answer.means in
+            let no : Heights (eqb f 0) count slice → ⊥ = subst (λ (x : Option ℕ). HeightsMeans x (eqb f 0) count slice) e answer.means in
             let breaks : Keeps p r.Heights f → ⊥ = λ k. no (rw (counted, ← code) k) in
             result now (one_breaks _ m.ready t.sofar l post breaks) t.greatest
 
-        pub one_measured : (g : ℕ) → h ≡ a.Greatest g → z.functions ≤ 65536 → Measuring p s (f + 1) c.next tally (set now f g)
+        pub one_measured : (g : ℕ) → h ≡ Some g → z.functions ≤ 65536 → Measuring p s (f + 1) c.next tally (set now f g)
         unfolding Keeps
         one_measured g e few =
-            let both : HeightsMeans (a.Greatest g) (eqb f 0) count slice = subst (λ (x : Height). HeightsMeans x (eqb f 0) count slice) e answer.means in
+            let both : HeightsMeans (Some g) (eqb f 0) count slice = subst (λ (x : Option ℕ). HeightsMeans x (eqb f 0) count slice) e answer.means in
             let kept : Heights (is_main f) (count_of p f) (code_of p f) = rw (← counted, code) both.0 in
             let most : Greatest (is_main f) (count_of p f) (code_of p f) g = rw (← counted, code) both.1 in
             let room = entry_there l few in
@@ -126,24 +119,18 @@ module _ {s : List ℕ} {z : Sizes} {tally : List ℕ} (m : Measurable s z tally
             }
 
 module _ {s : List ℕ} {z : Sizes} {tally before : List ℕ} {f at : ℕ} {now table : List ℕ} (t : Heighten s z tally before f at now table) where
-  pub place_inside : Measurable s z tally → at ≤ length s
-  place_inside m = measure_inside m (t.measuring m)
-
   pub entry_inside : Measurable s z tally → f < z.functions → f < length now
   entry_inside m l = entry_there m (t.measuring m) l (few_functions m.ready)
-
-  pub all_even : Measurable s z tally → z.functions ≤ f → MeasuredPost s now f
-  all_even m l = all_measured m (t.measuring m) l
 
   module _ (l : f < z.functions) {c : Code} (post : CodePost (eqb f 0) s at c) {count : ℕ} (told : count ≡ get_or now f 0 - 2) where
     pub heights_may_be_asked : Measurable s z tally → 65536 ≤ length before → HeightsPre (eqb f 0) count (take (c.from + c.size - c.from) (drop c.from s)) table
     heights_may_be_asked m room = let n = t.same in heights_asked m (t.measuring m) l post told table (omega arith)
 
-    module _ {h : Height} (answer : HeightsPost (eqb f 0) count (take (c.from + c.size - c.from) (drop c.from s)) h) where
-      pub one_is_uneven : Measurable s z tally → h ≡ a.Broken → MeasuredPost s now f
+    module _ {h : Option ℕ} (answer : HeightsPost (eqb f 0) count (take (c.from + c.size - c.from) (drop c.from s)) h) where
+      pub one_is_uneven : Measurable s z tally → h ≡ None → MeasuredPost s now f
       one_is_uneven m e = one_uneven m (t.measuring m) l post told answer e
 
-      pub one_is_even : {g : ℕ} → h ≡ a.Greatest g → {table' : List ℕ} → length table' ≡ length table
+      pub one_is_even : {g : ℕ} → h ≡ Some g → {table' : List ℕ} → length table' ≡ length table
           → Heighten s z tally before (f + 1) c.next (set now f g) table'
       one_is_even {g} e n = record {
         measuring = λ m. one_measured m (t.measuring m) l post told answer g e (few_functions m.ready);

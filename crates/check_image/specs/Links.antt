@@ -1,7 +1,6 @@
 -- What the functions of the check promise each other. `s` is the image, and a place is an offset in it.
-use Rattle.std.specs.Prelude.{◌≡◌, Bool, true, false, List, ℕ, ◌≤◌, ◌<◌, length, get_or}
-use Rattle.model.specs.declared.Loaded.{Loaded}
-use Rattle.model.specs.declared.Loaded.TheVariants as l
+use Rattle.std.specs.Prelude.{◌≡◌, Bool, true, false, List, ℕ, ◌≤◌, ◌<◌, length, get_or, Ok, Err, Result}
+use denote.Ref.{Bor, MutBor}
 use Rattle.model.specs.Programs.{Program}
 use Rattle.model.specs.Images.{fine, judge}
 use Rattle.model.specs.Emission.{written}
@@ -9,16 +8,10 @@ use Rattle.image_judge.specs.declared.Sizes.{Sizes}
 use Rattle.image_judge.specs.Links.{SizesOf}
 use Rattle.image_codes.specs.Links.{Ready}
 use Rattle.check_rules.specs.declared.Rule.{Rule}
-use Rattle.check_rules.specs.declared.Checked.{Checked}
-use Rattle.check_rules.specs.declared.Checked.TheVariants as c
 use Rattle.check_rules.specs.declared.Rule.TheVariants as r
 use Rattle.check_rules.specs.Rules.{calls_in, count_of, Greatest, code_of, is_main, Keeps, rule_number, KeptByAll, Passed, Broken}
 use Rattle.check_rules.specs.Checks.{HeightsOf}
 use Rattle.check_code.specs.Tallies.{tallied}
-use Rattle.check_image.specs.declared.passes.Pass.{Pass}
-use Rattle.check_image.specs.declared.passes.Pass.TheVariants as w
-use Rattle.check_image.specs.declared.passes.Finding.{Finding}
-use Rattle.check_image.specs.declared.passes.Finding.TheVariants as f
 
 -- ---- one rule over all functions
 
@@ -27,15 +20,9 @@ abbrev pub Tells : Bool → Type 0 → Type 0
 Tells true P = P
 Tells false P = P → ⊥
 
-unfoldable pub rule_of : Pass → Rule
-rule_of w.Instructions = r.Instructions
-rule_of w.Numbers = r.Numbers
-rule_of w.Calls = r.Calls
-rule_of w.Jumps = r.Jumps
-
 -- of a function that has this code, in a program of these sizes
-pub record KeepsPost (pass : Pass) (main : Bool) (code : List ℕ) (z : Sizes) (b : Bool) : Type 0 where
-  pub tells : (p : Program) → SizesOf p z → (f : ℕ) → is_main f ≡ main → code_of p f ≡ code → Tells b (Keeps p (rule_of pass) f)
+pub record KeepsPost (q : Rule) (main : Bool) (code : List ℕ) (z : Sizes) (b : Bool) : Type 0 where
+  pub tells : (p : Program) → SizesOf p z → (f : ℕ) → is_main f ≡ main → code_of p f ≡ code → Tells b (Keeps p q f)
 
 -- f is the lowest number below n that breaks Q; n where none does
 pub record Lowest (Q : ℕ → Type 0) (n f : ℕ) : Type 0 where
@@ -43,8 +30,14 @@ pub record Lowest (Q : ℕ → Type 0) (n f : ℕ) : Type 0 where
   pub breaks : f < n → Q f → ⊥
   pub most : f ≤ n
 
-pub record LowestPost (pass : Pass) (s : List ℕ) (f : ℕ) : Type 0 where
-  pub lowest : (p : Program) → judge s ≡ fine p → Lowest (Keeps p (rule_of pass)) (length p.functions) f
+-- a function's code may be asked about, with marks to write over that reach past it
+abbrev pub MayBeAsked : (Bool → Bor (List ℕ) → MutBor (List ℕ) → Type 0) → Type 0
+MayBeAsked pre = (main : Bool) (code : Bor (List ℕ)) (marks : MutBor (List ℕ)) → length code.now < length marks.now → pre main code marks
+
+-- and what is answered tells whether a function that has this code keeps the rule
+abbrev pub AnswersFor : Rule → Sizes → (Bool → Bor (List ℕ) → MutBor (List ℕ) → Bool → MutBor (List ℕ) → Type 0) → Type 0
+AnswersFor q z post = (main : Bool) (code : Bor (List ℕ)) (marks : MutBor (List ℕ)) (b : Bool) (after : MutBor (List ℕ))
+    → post main code marks b after → KeepsPost q main code.now z b
 
 -- ---- rule 4
 
@@ -88,27 +81,27 @@ pub record KeptBelow (p : Program) (k : ℕ) : Type 0 where
   pub kept : (e : Rule) → rule_number e < k → KeptByAll p e
 
 -- the first broken rule; or none of a lower number than k is broken
-abbrev pub FoundBelow : ℕ → Program → Finding → Type 0
-FoundBelow k p f.Nothing = KeptBelow p k
-FoundBelow k p (f.Breaks q g) = Broken p q g
+abbrev pub FoundBelow : ℕ → Program → Result Unit (Rule × ℕ) → Type 0
+FoundBelow k p (Ok u) = KeptBelow p k
+FoundBelow k p (Err (q, g)) = Broken p q g
 
-pub record BelowPost (k : ℕ) (s : List ℕ) (x : Finding) : Type 0 where
+pub record BelowPost (k : ℕ) (s : List ℕ) (x : Result Unit (Rule × ℕ)) : Type 0 where
   pub finds : (p : Program) → judge s ≡ fine p → FoundBelow k p x
 
 -- and if none is, the heights can be measured by the tally
-pub record LinksPost (s : List ℕ) (z : Sizes) (x : Finding) (counts : List ℕ) : Type 0 where
+pub record LinksPost (s : List ℕ) (z : Sizes) (x : Result Unit (Rule × ℕ)) (counts : List ℕ) : Type 0 where
   pub found : BelowPost 6 s x
-  pub tally : x ≡ f.Nothing → Measurable s z counts
+  pub tally : x ≡ Ok tt → Measurable s z counts
 
 pub record AllKept (p : Program) (hs : List ℕ) : Type 0 where
   pub passed : Passed p
   pub greatest : GreatestBelow p (length p.functions) hs
 
-abbrev pub FindingIs : Program → Finding → List ℕ → Type 0
-FindingIs p f.Nothing hs = AllKept p hs
-FindingIs p (f.Breaks q g) hs = Broken p q g
+abbrev pub FindingIs : Program → Result Unit (Rule × ℕ) → List ℕ → Type 0
+FindingIs p (Ok u) hs = AllKept p hs
+FindingIs p (Err (q, g)) hs = Broken p q g
 
-pub record FindingPost (s : List ℕ) (x : Finding) (hs : List ℕ) : Type 0 where
+pub record FindingPost (s : List ℕ) (x : Result Unit (Rule × ℕ)) (hs : List ℕ) : Type 0 where
   pub finds : (p : Program) → judge s ≡ fine p → FindingIs p x hs
 
 -- ---- the entry
@@ -124,14 +117,9 @@ pub record Unkept (p : Program) (q : Rule) (g : ℕ) (before after : List ℕ) :
   pub broken : Broken p q g
   pub same : after ≡ before
 
-abbrev pub RulesSay : Program → Finding → (before after : List ℕ) → Type 0
-RulesSay p f.Nothing before after = Kept p before after
-RulesSay p (f.Breaks q g) before after = Unkept p q g before after
+abbrev pub RulesSay : Program → Result Unit (Rule × ℕ) → (before after : List ℕ) → Type 0
+RulesSay p (Ok u) before after = Kept p before after
+RulesSay p (Err (q, g)) before after = Unkept p q g before after
 
-pub record RulesPost (s before : List ℕ) (x : Finding) (after : List ℕ) : Type 0 where
+pub record RulesPost (s before : List ℕ) (x : Result Unit (Rule × ℕ)) (after : List ℕ) : Type 0 where
   pub says : (p : Program) → judge s ≡ fine p → RulesSay p x before after
-
-unfoldable pub as_checked : Loaded → Checked
-as_checked (l.Done k) = c.Passed k
-as_checked (l.Broken o) = c.Broken o
-as_checked (l.Refused n) = c.Refused n

@@ -8,34 +8,33 @@ use crate::passes::{taken_with, tally_all};
 use check_code::{jumps, whole};
 use check_heights::{Flaw, flaw_in};
 use image_codes::code_at;
-use image_judge::{Judgement, Sizes, judge};
+use image_judge::{Sizes, judge};
 use image_load::within_limits;
 
 // The flaw of a code, by its function's entry of the tally. There are no heights to speak of where rule 1, 4 or 5 is broken.
-fn flaw_of(main: bool, entry: u32, code: &[u8], table: &mut [u32]) -> Flaw
+fn flaw_of(main: bool, entry: u32, code: &[u8], table: &mut [u32]) -> Option<Flaw>
     requires { (length code.now ≤ 65535) × (length code.now < length table.old) × (entry < 65538) }
     ensures { AskedPost main entry code.now result }
 {
     if entry == 1 {
-        return Flaw::Nothing;
+        return None;
     }
     if !whole(code) {
-        return Flaw::Nothing;
+        return None;
     }
     if !jumps(main, code, table) {
-        return Flaw::Nothing;
+        return None;
     }
     flaw_in(main, taken_with(entry), code, table)
 }
 
 // The flaw of function f, if there is one of that number.
-fn seek(image: &[u8], z: Sizes, f: usize, counts: &[u32], table: &mut [u32]) -> Flaw
+fn seek(image: &[u8], z: Sizes, f: usize, counts: &[u32], table: &mut [u32]) -> Option<Flaw>
     requires { (Ready image.now z) × (TalliedPost image.now counts.now) × (length counts.now ≡ 65536) × (65536 ≤ length table.old) }
     ensures { FlawIn image.now f result }
 {
     let mut next = z.first;
-    let mut g = 0;
-    while g < z.functions {
+    for g in 0..z.functions {
         let c = code_at(image, next, g == 0);
         let entry = counts[g];
         if g == f {
@@ -44,13 +43,12 @@ fn seek(image: &[u8], z: Sizes, f: usize, counts: &[u32], table: &mut [u32]) -> 
             return flaw_of(g == 0, entry, &image[from..end], table);
         }
         next = c.next;
-        g += 1;
     }
-    Flaw::Nothing
+    None
 }
 
 // The same, with a tally and a table of its own.
-fn flaw_alone(image: &[u8], z: Sizes, f: usize) -> Flaw
+fn flaw_alone(image: &[u8], z: Sizes, f: usize) -> Option<Flaw>
     requires { Ready image.now z }
     ensures { FlawIn image.now f result }
 {
@@ -61,16 +59,14 @@ fn flaw_alone(image: &[u8], z: Sizes, f: usize) -> Flaw
 }
 
 // What breaks rule 6 in function f of an image.
-pub fn height_flaw(image: &[u8], f: usize) -> Flaw
+pub fn height_flaw(image: &[u8], f: usize) -> Option<Flaw>
     ensures { FlawIn image.now f result }
 {
-    match judge(image) {
-        Judgement::Broken(_) => Flaw::Nothing,
-        Judgement::Fine(z) => {
-            if !within_limits(z) {
-                return Flaw::Nothing;
-            }
-            flaw_alone(image, z, f)
-        }
+    let Ok(z) = judge(image) else {
+        return None;
+    };
+    if !within_limits(z) {
+        return None;
     }
+    flaw_alone(image, z, f)
 }

@@ -1,5 +1,5 @@
 -- What is told of the rule of counts is so: there are two Calls of the function, and they pass different counts.
-use Rattle.std.specs.Prelude.{if◌then◌else◌}
+use Rattle.std.specs.Prelude.{if◌then◌else◌, None, Option, Some}
 use mathlib.Core.Path.{◌≡◌, refl, sym, ap, ◌∙◌}
 use mathlib.Core.Bool.{Bool, true, false, true≢false, not, ◌&&◌, ◌||◌}
 use mathlib.Core.List.{List, [], ◌∷◌, ◌++◌}
@@ -12,8 +12,7 @@ use Rattle.model.specs.Programs.{Function, Program, function_at, stands}
 use Rattle.check_rules.specs.declared.Rule.TheVariants as r
 use Rattle.check_rules.specs.Rules.{Site, call, is_at, first_at, second_at, calls_at, calls_in, count_in, count_of, passes, is_in, every, code_of, Keeps}
 use Rattle.check_code.proofs.Marks.{nothing_begins_there}
-use Rattle.check_places.specs.declared.Called.{Called}
-use Rattle.check_places.specs.declared.Called.TheVariants as c
+use Rattle.check_places.specs.declared.CallSite.{CallSite}
 use Rattle.check_places.specs.Places.{first_not}
 use Rattle.check_places.specs.Calls.{calls_other, call_in, called_at, first_call, count_told, first_of, other_of, IsCall, TwoCounts}
 
@@ -52,12 +51,16 @@ module _ (f : ℕ) (any : Bool) (k : ℕ) where
     pub position : is_in i (stands code) ≡ true
     pub calls : calls_other f any k code i ≡ true
 
+  -- what is told of the one that is found in function g
+  abbrev told_in : (g : ℕ) → List ℕ → CallSite
+  told_in g code = record { function = g; position = call_in f any k code; count = second_at code (call_in f any k code) }
+
   -- what was found in functions that are numbered from g on
-  pub data Finds : (g : ℕ) → List Function → Called → Type 0 where
-    none : {g : ℕ} → Finds g [] c.Nowhere
+  pub data Finds : (g : ℕ) → List Function → Option CallSite → Type 0 where
+    none : {g : ℕ} → Finds g [] None
     here : {g : ℕ} {h : Function} {hs : List Function} → Sounds h.code (call_in f any k h.code)
-        → Finds g (h ∷ hs) (c.At g (call_in f any k h.code) (second_at h.code (call_in f any k h.code)))
-    there : {g : ℕ} {h : Function} {hs : List Function} {x : Called} → Quiet h.code → Finds (suc g) hs x → Finds g (h ∷ hs) x
+        → Finds g (h ∷ hs) (Some (told_in g h.code))
+    there : {g : ℕ} {h : Function} {hs : List Function} {x : Option CallSite} → Quiet h.code → Finds (suc g) hs x → Finds g (h ∷ hs) x
 
   not_false : (b : Bool) → not b ≡ false → b ≡ true
   not_false true e = refl
@@ -80,31 +83,31 @@ module _ (f : ℕ) (any : Bool) (k : ℕ) where
       seen = in_code h.code (fails (λ j. not (calls_other f any k h.code j)) (length h.code) (stands h.code))
 
       by_place : (b : Bool) → ltb (call_in f any k h.code) (length h.code) ≡ b → Finds (suc g) hs (first_call f any k (suc g) hs)
-          → Finds g (h ∷ hs) (if b then c.At g (call_in f any k h.code) (second_at h.code (call_in f any k h.code)) else first_call f any k (suc g) hs)
+          → Finds g (h ∷ hs) (if b then Some (told_in g h.code) else first_call f any k (suc g) hs)
       by_place true e more = here (seen.0 (ltb-true _ _ e))
       by_place false e more = there (seen.1 (ltb-false _ _ e)) more
 
 -- where it was found: function j of those that are looked at
-record Located (f : ℕ) (any : Bool) (k g : ℕ) (fs : List Function) (by at n : ℕ) : Type 0 where
+record Located (f : ℕ) (any : Bool) (k g : ℕ) (fs : List Function) (c : CallSite) : Type 0 where
   j : ℕ
-  number : by ≡ g + j
+  number : c.function ≡ g + j
   there_is : j < length fs
-  sounds : Sounds f any k (function_at fs j).code at
-  count : second_at (function_at fs j).code at ≡ n
+  sounds : Sounds f any k (function_at fs j).code c.position
+  count : second_at (function_at fs j).code c.position ≡ c.count
 
-located : {f : ℕ} {any : Bool} {k g : ℕ} {fs : List Function} {x : Called} → Finds f any k g fs x → {by at n : ℕ} → x ≡ c.At by at n → Located f any k g fs by at n
+located : {f : ℕ} {any : Bool} {k g : ℕ} {fs : List Function} {x : Option CallSite} → Finds f any k g fs x → {c : CallSite} → x ≡ Some c → Located f any k g fs c
 unfolding function_at
 located none e = absurd (let z : ◌≡◌ {A = ℕ} 0 1 = cc in let y : ⊥ = omega arith in y)
-located {f} {any} {k} {g} (here {h = h} s) {by} {at} {n} e =
-    let same_function : g ≡ by = cc in
-    let same_place : call_in f any k h.code ≡ at = cc in
-    let same_count : second_at h.code (call_in f any k h.code) ≡ n = cc in
+located {f} {any} {k} {g} (here {h = h} s) {c} e =
+    let same : told_in f any k g h.code ≡ c = cc in
+    let same_function = ap (λ (d : CallSite). d.function) same in
+    let same_place : call_in f any k h.code ≡ c.position = ap (λ (d : CallSite). d.position) same in
     record {
       j = 0;
       number = omega arith;
       there_is = omega arith;
       sounds = rw same_place at s;
-      count = ap (second_at h.code) (sym same_place) ∙ same_count;
+      count = ap (second_at h.code) (sym same_place) ∙ ap (λ (d : CallSite). d.count) same;
     }
 located (there q t) e =
     let l = located t e in
@@ -142,7 +145,7 @@ module _ (f : ℕ) (any : Bool) (k' k : ℕ) (fits : (n : ℕ) → (any || not (
   pass_both [] vs g h = h
   pass_both (u ∷ us) vs g h = both_pass (not (eqb u.function f) || eqb u.count k) g (λ e. pass_both us vs e h)
 
-  none_passes : {g : ℕ} {fs : List Function} {x : Called} → Finds f any k' g fs x → x ≡ c.Nowhere → passes f k (calls_in fs) ≡ true
+  none_passes : {g : ℕ} {fs : List Function} {x : Option CallSite} → Finds f any k' g fs x → x ≡ None → passes f k (calls_in fs) ≡ true
   unfolding calls_in passes
   none_passes none e = refl
   none_passes (here s) e = absurd (let z : ◌≡◌ {A = ℕ} 0 1 = cc in let y : ⊥ = omega arith in y)
@@ -187,7 +190,7 @@ module _ (f k' : ℕ) (code : List ℕ) where
       ∙ one_counts (is_at call code i) (eqb (first_at code i) f) i (count_in f vs) (every quiet is) (first_not quiet end is) (site_at code i) (calls_at code is ++ vs) refl refl
       (calls_count end is vs)
 
-first_counts : {f k' g : ℕ} {fs : List Function} {x : Called} → Finds f true k' g fs x → count_told x ≡ count_in f (calls_in fs)
+first_counts : {f k' g : ℕ} {fs : List Function} {x : Option CallSite} → Finds f true k' g fs x → count_told x ≡ count_in f (calls_in fs)
 unfolding calls_in call_in count_in count_told
 first_counts none = refl
 first_counts {f} {k'} (here {h = h} {hs = hs} s) =
@@ -216,12 +219,12 @@ heard {f} {any} {k} {code} {i} s =
     let of-f = both_so (eqb (first_at code i) f) _ a_call.1 in
     (a_call.0, eqb-true _ _ of-f.0, of-f.1)
 
-is_call : (p : Program) {f : ℕ} {any : Bool} {k by at n : ℕ} → Located f any k 0 p.functions by at n → IsCall p f by at n
-is_call p {f} {any} {k} {by} {at} l =
+is_call : (p : Program) {f : ℕ} {any : Bool} {k : ℕ} {c : CallSite} → Located f any k 0 p.functions c → IsCall p f c.function c.position c.count
+is_call p {f} {any} {k} {c} l =
     let number = l.number in
     let known = l.there_is in
-    let here : l.j ≡ by = omega arith in
-    let s : Sounds f any k (code_of p by) at = rw here at l.sounds in
+    let here : l.j ≡ c.function = omega arith in
+    let s : Sounds f any k (code_of p c.function) c.position = rw here at l.sounds in
     record {
       function = omega arith;
       position = s.position;
@@ -230,9 +233,9 @@ is_call p {f} {any} {k} {by} {at} l =
       passes = rw here at l.count;
     }
 
-differs : (p : Program) {f k by at n : ℕ} → Located f false k 0 p.functions by at n → n ≡ k → ⊥
-differs p {k = k} {at = at} l e =
-    let same : eqb (second_at (function_at p.functions l.j).code at) k ≡ true = eq-eqb _ _ (l.count ∙ e) in
+differs : (p : Program) {f k : ℕ} {c : CallSite} → Located f false k 0 p.functions c → c.count ≡ k → ⊥
+differs p {k = k} {c = c} l e =
+    let same : eqb (second_at (function_at p.functions l.j).code c.position) k ≡ true = eq-eqb _ _ (l.count ∙ e) in
     true≢false (sym (rw same at (heard l.sounds).2))
 
 any_fits : (k' k n : ℕ) → (true || not (eqb n k')) ≡ false → eqb n k ≡ true
@@ -250,30 +253,30 @@ module _ (p : Program) (f : ℕ) (broken : Keeps p r.Counts f → ⊥) where
   unfolding Keeps
   not_all e = broken e
 
-  with_both : {by at n : ℕ} → first_of p f ≡ c.At by at n → (y : Called) → other_of p f ≡ y → TwoCounts p f
+  with_both : {c : CallSite} → first_of p f ≡ Some c → (y : Option CallSite) → other_of p f ≡ y → TwoCounts p f
   unfolding first_of other_of count_told
-  with_both d c.Nowhere e = absurd (not_all (none_passes f false (count_of p f) (count_of p f) (same_fits (count_of p f)) (finds f false (count_of p f) 0 p.functions) e))
-  with_both {by} {at} {n} d (c.At by' at' count) e =
+  with_both d None e = absurd (not_all (none_passes f false (count_of p f) (count_of p f) (same_fits (count_of p f)) (finds f false (count_of p f) 0 p.functions) e))
+  with_both {c} d (Some c') e =
       let first = finds f true 0 0 p.functions in
       let other = located (finds f false (count_of p f) 0 p.functions) e in
-      let taken : n ≡ count_of p f = ap count_told (sym d) ∙ first_tells_the_count p f in
+      let taken : c.count ≡ count_of p f = ap count_told (sym d) ∙ first_tells_the_count p f in
       record {
-        by = by;
-        at = at;
-        by' = by';
-        at' = at';
-        count = count;
-        first = d ∙ ap (λ (m : ℕ). c.At by at m) taken;
+        by = c.function;
+        at = c.position;
+        by' = c'.function;
+        at' = c'.position;
+        count = c'.count;
+        first = d ∙ ap (λ (m : ℕ). Some (record c { count = m })) taken;
         first_is = rw taken at (is_call p (located first d));
         other = e;
         other_is = is_call p other;
         differ = differs p other;
       }
 
-  with_first : (x : Called) → first_of p f ≡ x → TwoCounts p f
+  with_first : (x : Option CallSite) → first_of p f ≡ x → TwoCounts p f
   unfolding first_of
-  with_first c.Nowhere d = absurd (not_all (none_passes f true 0 (count_of p f) (any_fits 0 (count_of p f)) (finds f true 0 0 p.functions) d))
-  with_first (c.At by at n) d = with_both d (other_of p f) refl
+  with_first None d = absurd (not_all (none_passes f true 0 (count_of p f) (any_fits 0 (count_of p f)) (finds f true 0 0 p.functions) d))
+  with_first (Some c) d = with_both d (other_of p f) refl
 
   -- THE LAW: where the rule of counts is broken, the two Calls that are told are there, and they differ
   pub two_counts_are_told : TwoCounts p f

@@ -1,9 +1,8 @@
 -- [checker] Which Calls break the rule of counts: the first Call of a function, by whose count it is taken, and the first that passes another.
-use Rattle.std.specs.Prelude.{Bool, true, false, not, ◌&&◌, ◌||◌, ◌≡◌, List, [], ◌∷◌, ℕ, suc, ◌<◌, eqb, ltb, length, if◌then◌else◌}
+use Rattle.std.specs.Prelude.{Bool, true, false, not, ◌&&◌, ◌||◌, ◌≡◌, List, [], ◌∷◌, ℕ, suc, ◌<◌, eqb, ltb, length, if◌then◌else◌, None, Option, Some}
 use Rattle.model.specs.Programs.{Function, Program, stands}
 use Rattle.check_rules.specs.Rules.{call, is_at, first_at, second_at, is_in, count_of, code_of}
-use Rattle.check_places.specs.declared.Called.{Called}
-use Rattle.check_places.specs.declared.Called.TheVariants as c
+use Rattle.check_places.specs.declared.CallSite.{CallSite}
 use Rattle.check_places.specs.Places.{first_not}
 
 -- the instruction at i is a Call of f, and passes something other than k; any Call of f will do where `any` says so
@@ -15,24 +14,24 @@ unfoldable pub call_in : (f : ℕ) → (any : Bool) → (k : ℕ) → List ℕ �
 call_in f any k code = first_not (λ i. not (calls_other f any k code i)) (length code) (stands code)
 
 -- what is told of a Call that stands at i in the code of function g, if i is inside
-unfoldable pub called_at : (g : ℕ) → List ℕ → ℕ → (otherwise : Called) → Called
-called_at g code i otherwise = if ltb i (length code) then c.At g i (second_at code i) else otherwise
+unfoldable pub called_at : (g : ℕ) → List ℕ → ℕ → (otherwise : Option CallSite) → Option CallSite
+called_at g code i otherwise = if ltb i (length code) then Some (record { function = g; position = i; count = second_at code i }) else otherwise
 
 -- the first of these in functions that are numbered from g on
-unfoldable pub first_call : (f : ℕ) → (any : Bool) → (k g : ℕ) → List Function → Called
-first_call f any k g [] = c.Nowhere
+unfoldable pub first_call : (f : ℕ) → (any : Bool) → (k g : ℕ) → List Function → Option CallSite
+first_call f any k g [] = None
 first_call f any k g (h ∷ hs) = called_at g h.code (call_in f any k h.code) (first_call f any k (suc g) hs)
 
 -- how many arguments it passes; none where there is none
-unfoldable pub count_told : Called → ℕ
-count_told (c.At g i n) = n
-count_told c.Nowhere = 0
+unfoldable pub count_told : Option CallSite → ℕ
+count_told (Some c) = c.count
+count_told None = 0
 
 -- the first Call of f in a program, and the first that passes another count than that
-unfoldable pub first_of : Program → ℕ → Called
+unfoldable pub first_of : Program → ℕ → Option CallSite
 first_of p f = first_call f true 0 0 p.functions
 
-unfoldable pub other_of : Program → ℕ → Called
+unfoldable pub other_of : Program → ℕ → Option CallSite
 other_of p f = first_call f false (count_of p f) 0 p.functions
 
 -- ---- what is so of them
@@ -52,8 +51,8 @@ pub record TwoCounts (p : Program) (f : ℕ) : Type 0 where
   pub by' : ℕ
   pub at' : ℕ
   pub count : ℕ
-  pub first : first_of p f ≡ c.At by at (count_of p f)
+  pub first : first_of p f ≡ Some (record { function = by; position = at; count = count_of p f })
   pub first_is : IsCall p f by at (count_of p f)
-  pub other : other_of p f ≡ c.At by' at' count
+  pub other : other_of p f ≡ Some (record { function = by'; position = at'; count = count })
   pub other_is : IsCall p f by' at' count
   pub differ : count ≡ count_of p f → ⊥

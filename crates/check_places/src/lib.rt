@@ -4,7 +4,7 @@
 ghost use Rattle.std.specs.Prelude.{◌≡◌, ◌≤◌, ◌<◌, length};
 ghost use Rattle.check_code.specs.Links.{Marked};
 ghost use Rattle.check_places.specs.Places.{KeepsOne, PlacePost};
-ghost use Rattle.check_places.specs.Calls.{calls_other, call_in, count_told};
+ghost use Rattle.check_places.specs.Calls.{calls_other, call_in};
 
 use check_code::{call_at, first_at, jump_at, mark, next_at, numbers_at, second_at, whole_at};
 use check_rules::Rule;
@@ -32,6 +32,7 @@ pub fn first_place(q: Rule, main: bool, code: &[u8], c: Counts, marks: &mut [u32
 {
     mark(code, marks);
     let mut i = 0;
+    // Each step is as long as its instruction, so this is no `for`.
     while i < code.len() {
         if keeps_at(q, main, code, i, c, marks) {
             i = next_at(code, i);
@@ -44,21 +45,12 @@ pub fn first_place(q: Rule, main: bool, code: &[u8], c: Counts, marks: &mut [u32
 
 // ---- rule 4: a Call, and where one stands
 
-// A Call that was looked for: the function it stands in, its position there, and how many arguments it passes.
+// The function that it stands in, where it stands there, and how many arguments it passes.
 #[derive(Clone, Copy)]
-pub enum Called {
-    At(usize, usize, usize),
-    Nowhere,
-}
-
-// How many arguments it passes.
-pub fn count_told(x: Called) -> usize
-    ensures { result ≡ count_told x }
-{
-    match x {
-        Called::At(_, _, n) => n,
-        Called::Nowhere => 0,
-    }
+pub struct CallSite {
+    pub function: usize,
+    pub position: usize,
+    pub count: usize,
 }
 
 // The opcode of a Call.
@@ -83,6 +75,7 @@ pub fn first_call(f: usize, any: bool, k: usize, code: &[u8]) -> usize
     ensures { result ≡ call_in f any k code.now }
 {
     let mut at = 0;
+    // Each step is as long as its instruction, so this is no `for`.
     while at < code.len() {
         if calls_other(f, any, k, code, at) {
             return at;

@@ -15,12 +15,12 @@ use Rattle.printing.specs.Links.{Put}
 use Rattle.printing.proofs.Puts.{is, within, both, nothing}
 use Rattle.check_rules.specs.declared.Rule.{Rule}
 use Rattle.check_rules.specs.Rules.{second_at, rule_number}
-use Rattle.check_places.specs.declared.Called.{Called}
-use Rattle.check_places.specs.declared.Called.TheVariants as d
+use Rattle.check_places.specs.declared.CallSite.{CallSite}
 use Rattle.check_places.specs.Calls.{call_in, called_at, first_call, count_told, first_of, other_of}
 use Rattle.check_places.proofs.TwoCounts.{first_tells_the_count}
 use Rattle.check_report.specs.Details.{called_words, counts_words}
 use Rattle.check_report.specs.Links.{CalledPost, CountsPost}
+use Rattle.std.specs.Prelude.{MatchOption, None, Option, Some}
 
 -- ---- function by function
 
@@ -34,7 +34,7 @@ module _ (f : ℕ) (any : Bool) (k n : ℕ) (functions main other : List ℕ) wh
   none_sought = record { each = λ rest text. let all : n - 0 ≡ n = omega arith in rw all }
 
   module _ {g : ℕ} (t : Seeking f any k n functions main other g) where
-    pub none_found : n ≤ g → CalledPost f any k n functions main other d.Nowhere
+    pub none_found : n ≤ g → CalledPost f any k n functions main other None
     unfolding functions_from first_call
     none_found h = record { means = λ rest text. let none : n - g ≡ 0 = omega arith in sym (rw none at (t.each rest text)) }
 
@@ -48,7 +48,7 @@ module _ (f : ℕ) (any : Bool) (k n : ℕ) (functions main other : List ℕ) wh
           let one : n - g ≡ suc (n - suc g) = omega arith in
           (rw one at (t.each rest text)) ∙ rw (← own.0 rest text, ← e)
 
-      pub one_found : i < length code → {count : ℕ} → (count ≡ second_at code i) × (count < 0x1_0000) → CalledPost f any k n functions main other (d.At g i count)
+      pub one_found : i < length code → {count : ℕ} → (count ≡ second_at code i) × (count < 0x1_0000) → CalledPost f any k n functions main other (Some (record { function = g; position = i; count = count }))
       unfolding called_at
       one_found l c = record { means = λ rest text. sym (in_turn rest text ∙ rw (lt-ltb _ _ l, ← c.0)) }
 
@@ -58,22 +58,28 @@ module _ (f : ℕ) (any : Bool) (k n : ℕ) (functions main other : List ℕ) wh
 
 -- ---- what is said of it
 
-module _ {x : Called} {s : List ℕ} {at : ℕ} where
-  pub called_put : {g i n : ℕ} → x ≡ d.At g i n → {s₁ s₂ s₃ : List ℕ} {i₁ i₂ i₃ : ℕ} → Put 27 (ascii ", with " ++ decimal n) s at s₁ i₁
-      → Put 33 (ascii " by function " ++ decimal g) s₁ i₁ s₂ i₂ → Put 24 (ascii " at " ++ decimal i) s₂ i₂ s₃ i₃ → Put 84 (called_words x) s at s₃ i₃
+module _ {x : Option CallSite} {s : List ℕ} {at : ℕ} where
+  pub called_put : {c : CallSite} → x ≡ Some c → {s₁ s₂ s₃ : List ℕ} {i₁ i₂ i₃ : ℕ} → Put 27 (ascii ", with " ++ decimal c.count) s at s₁ i₁
+      → Put 33 (ascii " by function " ++ decimal c.function) s₁ i₁ s₂ i₂ → Put 24 (ascii " at " ++ decimal c.position) s₂ i₂ s₃ i₃ → Put 84 (called_words x) s at s₃ i₃
   unfolding called_words
   called_put e p q r = rw e (is (both (both p q) r) (simp append_assoc))
 
-  pub called_nowhere : x ≡ d.Nowhere → Put 84 (called_words x) s at s at
+  pub called_nowhere : x ≡ None → Put 84 (called_words x) s at s at
   unfolding called_words
   called_nowhere e = rw e (within (nothing s at) 84 (omega arith))
+
+-- the count of a Call, or 0
+pub counted : (x : Option CallSite) {k : ℕ} (Q : CallSite → Type 0) → ((d : CallSite) → Q d → k ≡ d.count) → MatchOption x (k ≡ 0) Q → k ≡ count_told x
+unfolding count_told
+counted (Some d) Q is e = is d e
+counted None Q is e = e
 
 module _ (c : Counts) (functions main other : List ℕ) (q : Rule) (f : ℕ) {m : ℕ} (e : m ≡ rule_number q) {s : List ℕ} {at : ℕ} where
   pub no_counts : (m ≡ 4 → ⊥) → CountsPost c functions main other q f s at s at
   unfolding counts_words
   no_counts h = record { says = λ rest text. rw (← e, ne_eqb m 4 h) (within (nothing s at) 168 (omega arith)) }
 
-  pub two_counts : m ≡ 4 → {x : Called} → CalledPost f true 0 c.functions functions main other x → {k : ℕ} → k ≡ count_told x → {y : Called}
+  pub two_counts : m ≡ 4 → {x : Option CallSite} → CalledPost f true 0 c.functions functions main other x → {k : ℕ} → k ≡ count_told x → {y : Option CallSite}
       → CalledPost f false k c.functions functions main other y → {s₁ s₂ : List ℕ} {i₁ i₂ : ℕ} → Put 84 (called_words x) s at s₁ i₁ → Put 84 (called_words y) s₁ i₁ s₂ i₂
       → CountsPost c functions main other q f s at s₂ i₂
   unfolding counts_words program_in first_of other_of

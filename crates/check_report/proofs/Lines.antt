@@ -1,26 +1,26 @@
 -- The checker's lines, put one behind the other.
-use mathlib.Core.Path.{◌≡◌, sym, ap, ◌∙◌}
-use mathlib.Core.List.{List, [], ◌∷◌, ◌++◌, append_assoc, append-nil}
+use mathlib.Core.Path.{◌≡◌, refl, sym, ap, ◌∙◌}
+use mathlib.Core.List.{List, ◌++◌, append_assoc, append-nil}
 use Prim.Native.Nat.{ℕ, zero, suc, ◌+◌, ◌*◌, ◌≤◌, ◌<◌}
 use native.Mathlib.Omega.{arith}
 use native.Mathlib.Numerals.{add-one}
 use lib.ListN.{length, get_or}
-use borrow.Author.Tests.{ne_eqb}
 use Rattle.model.specs.declared.Counts.{Counts}
 use Rattle.model.specs.Basics.{ascii}
 use Rattle.model.specs.Listings.{decimal}
 use Rattle.model.specs.Reports.{refused_line}
-use denote.Enum.Declared.{tag_of}
-use types.Run.{OneOf, miss}
-use Rattle.check_rules.specs.contracts.Checked.{the_type}
+use Rattle.model.specs.Answers.{refusal_number}
+use Rattle.model.specs.declared.Refusal.{Refusal}
 use Rattle.check_rules.specs.declared.Rule.{Rule}
-use Rattle.check_rules.specs.declared.Checked.{Checked}
-use Rattle.check_rules.specs.declared.Checked.TheVariants as c
 use Rattle.check_rules.specs.Rules.{rule_number}
 use Rattle.printing.specs.Links.{Put}
 use Rattle.printing.proofs.Puts.{is, within, both, nothing}
-use Rattle.check_report.specs.Texts.{height_line, height_lines, broken_line, breach_line, facts_text, broken_words, breach_words, rule_words, refused_words, words_text, checked_text}
+use Rattle.check_report.specs.Texts.{height_line, height_lines, broken_line, breach_line, refused_facts, facts_text, broken_words, breach_words, rule_words, refused_words, words_text, checked_text}
 use Rattle.check_report.specs.Links.{Tellable}
+use Rattle.std.specs.Prelude.{Err, Ok, Result}
+use Rattle.check_rules.specs.declared.Rejected.{Rejected}
+use Rattle.model.specs.declared.Refusal.TheVariants as why
+use Rattle.check_rules.specs.declared.Rejected.TheVariants as no
 
 -- ---- one line
 
@@ -77,26 +77,20 @@ module _ {n : ℕ} {hs s : List ℕ} {at : ℕ} {s' : List ℕ} {f j : ℕ} (h :
 
 -- ---- an answer's facts
 
-pub heights_inside : {a : Checked} {hs : List ℕ} → Tellable a hs → {k : Counts} → a ≡ c.Passed k → k.functions ≤ length hs
+pub heights_inside : {a : Result Counts Rejected} {hs : List ℕ} → Tellable a hs → {k : Counts} → a ≡ Ok k → k.functions ≤ length hs
 heights_inside h e = rw e at h.inside
 
-module _ (hs : List ℕ) {a : Checked} {s₀ s₁ : List ℕ} {i₁ : ℕ} where
-  pub passed_facts : {k : Counts} → a ≡ c.Passed k → k.functions ≤ length hs → {s₂ : List ℕ} {i₂ : ℕ} → Put 7 (ascii "passed\n") s₀ 0 s₁ i₁
+module _ (hs : List ℕ) {a : Result Counts Rejected} {s₀ s₁ : List ℕ} {i₁ : ℕ} where
+  pub passed_facts : {k : Counts} → a ≡ Ok k → k.functions ≤ length hs → {s₂ : List ℕ} {i₂ : ℕ} → Put 7 (ascii "passed\n") s₀ 0 s₁ i₁
       → Put (64 * k.functions) (height_lines k.functions 0 hs) s₁ i₁ s₂ i₂ → Put (96 + 64 * length hs) (facts_text a hs) s₀ 0 s₂ i₂
   unfolding facts_text
   passed_facts e h p q = rw e (within (both p q) (96 + 64 * length hs) (omega arith))
 
-  pub broken_facts : {i : ℕ} → a ≡ c.Broken i → Put 35 (ascii "refused 20 at " ++ decimal i ++ ascii "\n") s₀ 0 s₁ i₁
-      → Put (96 + 64 * length hs) (facts_text a hs) s₀ 0 s₁ i₁
-  unfolding facts_text broken_line
-  broken_facts e p = rw e (within p (96 + 64 * length hs) (omega arith))
+  pub refused_facts_lem : {e : Refusal} → a ≡ Err (no.Refused e) → Put 96 (refused_facts e) s₀ 0 s₁ i₁ → Put (96 + 64 * length hs) (facts_text a hs) s₀ 0 s₁ i₁
+  unfolding facts_text
+  refused_facts_lem e p = rw e (within p (96 + 64 * length hs) (omega arith))
 
-  pub refused_facts : {n : ℕ} → a ≡ c.Refused n → Put 29 (ascii "refused " ++ decimal n ++ ascii "\n") s₀ 0 s₁ i₁
-      → Put (96 + 64 * length hs) (facts_text a hs) s₀ 0 s₁ i₁
-  unfolding facts_text refused_line
-  refused_facts e p = rw e (within p (96 + 64 * length hs) (omega arith))
-
-  pub breach_facts : {q : Rule} {f : ℕ} → a ≡ c.Breaks q f → Put 67 (breach_line q f) s₀ 0 s₁ i₁ → Put (96 + 64 * length hs) (facts_text a hs) s₀ 0 s₁ i₁
+  pub breach_facts : {q : Rule} {f : ℕ} → a ≡ Err (no.Breaks q f) → Put 67 (breach_line q f) s₀ 0 s₁ i₁ → Put (96 + 64 * length hs) (facts_text a hs) s₀ 0 s₁ i₁
   unfolding facts_text
   breach_facts e p = rw e (within p (96 + 64 * length hs) (omega arith))
 
@@ -106,40 +100,62 @@ module _ {s s' : List ℕ} {i r : ℕ} where
   pub rule_is : {k : ℕ} {q w : Rule} → q ≡ w → k ≤ 96 → Put k (rule_words w) s i s' r → Put 96 (rule_words q) s i s' r
   rule_is e h p = rw e (within p 96 h)
 
-  module _ {a : Checked} (said : List ℕ) where
-    pub broken_told : {o : ℕ} → a ≡ c.Broken o → Put (128 + length said) (broken_words o said) s i s' r → Put (128 + length said) (words_text a said) s i s' r
+  module _ {a : Result Counts Rejected} (said : List ℕ) where
+    pub refused_told_lem : {e : Refusal} → a ≡ Err (no.Refused e) → Put (128 + length said) (refused_words e said) s i s' r → Put (128 + length said) (words_text a said) s i s' r
     unfolding words_text
-    broken_told e p = rw e p
+    refused_told_lem e p = rw e p
 
-    pub refused_told_lem : {n : ℕ} → a ≡ c.Refused n → Put 128 (refused_words n) s i s' r → Put (128 + length said) (words_text a said) s i s' r
-    unfolding words_text
-    refused_told_lem e p = rw e (within p (128 + length said) (omega arith))
-
-    pub breach_told : {q : Rule} {f : ℕ} → a ≡ c.Breaks q f → Put (128 + length said) (breach_words q f said) s i s' r → Put (128 + length said) (words_text a said) s i s' r
+    pub breach_told : {q : Rule} {f : ℕ} → a ≡ Err (no.Breaks q f) → Put (128 + length said) (breach_words q f said) s i s' r → Put (128 + length said) (words_text a said) s i s' r
     unfolding words_text
     breach_told e p = rw e p
 
-pub checked_is : (a : Checked) (said hs : List ℕ) {s₀ s₁ s₂ : List ℕ} {i₁ i₂ : ℕ} → Put (96 + 64 * length hs) (facts_text a hs) s₀ 0 s₁ i₁
+pub checked_is : (a : Result Counts Rejected) (said hs : List ℕ) {s₀ s₁ s₂ : List ℕ} {i₁ i₂ : ℕ} → Put (96 + 64 * length hs) (facts_text a hs) s₀ 0 s₁ i₁
     → Put (128 + length said) (words_text a said) s₁ i₁ s₂ i₂ → length said ≤ 384 → Put (608 + 64 * length hs) (checked_text a said hs) s₀ 0 s₂ i₂
 unfolding checked_text
 checked_is a said hs p q h = within (both p q) (608 + 64 * length hs) (omega arith)
 
-pub passed_told : (s : List ℕ) (i : ℕ) (a : Checked) (said : List ℕ) → OneOf (0 ∷ []) (tag_of the_type a) → Put (128 + length said) (words_text a said) s i s i
+pub passed_told : (s : List ℕ) (i : ℕ) {a : Result Counts Rejected} (said : List ℕ) {k : Counts} → a ≡ Ok k → Put (128 + length said) (words_text a said) s i s i
 unfolding words_text
-passed_told s i (c.Passed k) said d = within (nothing s i) (128 + length said) (omega arith)
-passed_told s i (c.Broken o) said d = absurd (miss (0 ∷ []) 1 tt d)
-passed_told s i (c.Refused n) said d = absurd (miss (0 ∷ []) 2 tt d)
-passed_told s i (c.Breaks q f) said d = absurd (miss (0 ∷ []) 3 tt d)
+passed_told s i said e = rw e (within (nothing s i) (128 + length said) (omega arith))
 
-module _ {n : ℕ} {s s' : List ℕ} {i r : ℕ} where
-  pub few_places : n ≡ 17 → Put 38 (ascii "the image has more than 256 functions\n") s i s' r → Put 128 (refused_words n) s i s' r
-  unfolding refused_words
-  few_places e p = rw e (within p 128 (omega arith))
+-- ---- a refusal before the rules are looked at
 
-  pub too_short : n ≡ 21 → Put 89 (ascii "the image has more than the programs' stores hold; a host with larger stores may pass it\n") s i s' r → Put 128 (refused_words n) s i s' r
-  unfolding refused_words
-  too_short e p = rw e (within p 128 (omega arith))
+by_number : (e : Refusal) → ((i : ℕ) → e ≡ why.BrokenImage i → ⊥) → refused_facts e ≡ refused_line (refusal_number e)
+unfolding refused_facts
+by_number (why.BrokenImage i) d = absurd (d i refl)
+by_number e d = refl
 
-  pub past_limits : (n ≡ 17 → ⊥) → (n ≡ 21 → ⊥) → Put 73 (ascii "the image is longer than 16,384 bytes, or has more than the limits allow\n") s i s' r → Put 128 (refused_words n) s i s' r
+past_limits_words : (said : List ℕ) (e : Refusal) → ((i : ℕ) → e ≡ why.BrokenImage i → ⊥) → (e ≡ why.ResultTooShort → ⊥) → (e ≡ why.StoreFull → ⊥)
+    → refused_words e said ≡ ascii "the image is longer than 16,384 bytes, or has more than the limits allow\n"
+unfolding refused_words
+past_limits_words said (why.BrokenImage i) d f g = absurd (d i refl)
+past_limits_words said why.ResultTooShort d f g = absurd (f refl)
+past_limits_words said why.StoreFull d f g = absurd (g refl)
+past_limits_words said e d f g = refl
+
+module _ (e : Refusal) {s s' : List ℕ} {r : ℕ} where
+  pub broken_facts : {i : ℕ} → e ≡ why.BrokenImage i → Put 35 (ascii "refused 20 at " ++ decimal i ++ ascii "\n") s 0 s' r → Put 96 (refused_facts e) s 0 s' r
+  unfolding refused_facts broken_line
+  broken_facts q p = rw q (within p 96 (omega arith))
+
+  pub number_facts : ((i : ℕ) → e ≡ why.BrokenImage i → ⊥) → {n : ℕ} → n ≡ refusal_number e → Put 29 (ascii "refused " ++ decimal n ++ ascii "\n") s 0 s' r → Put 96 (refused_facts e) s 0 s' r
+  unfolding refused_line
+  number_facts d q p = rw (by_number e d) (within (rw q at p) 96 (omega arith))
+
+module _ (said : List ℕ) (e : Refusal) {s s' : List ℕ} {i r : ℕ} where
+  pub broken_told : {o : ℕ} → e ≡ why.BrokenImage o → Put (128 + length said) (broken_words o said) s i s' r → Put (128 + length said) (refused_words e said) s i s' r
   unfolding refused_words
-  past_limits d e p = rw (ne_eqb n 17 d, ne_eqb n 21 e) (within p 128 (omega arith))
+  broken_told q p = rw q p
+
+  pub few_places : e ≡ why.ResultTooShort → Put 38 (ascii "the image has more than 256 functions\n") s i s' r → Put (128 + length said) (refused_words e said) s i s' r
+  unfolding refused_words
+  few_places q p = rw q (within p (128 + length said) (omega arith))
+
+  pub too_short : e ≡ why.StoreFull → Put 89 (ascii "the image has more than the programs' stores hold; a host with larger stores may pass it\n") s i s' r
+      → Put (128 + length said) (refused_words e said) s i s' r
+  unfolding refused_words
+  too_short q p = rw q (within p (128 + length said) (omega arith))
+
+  pub past_limits : ((i : ℕ) → e ≡ why.BrokenImage i → ⊥) → (e ≡ why.ResultTooShort → ⊥) → (e ≡ why.StoreFull → ⊥)
+      → Put 73 (ascii "the image is longer than 16,384 bytes, or has more than the limits allow\n") s i s' r → Put (128 + length said) (refused_words e said) s i s' r
+  past_limits d f g p = rw (past_limits_words said e d f g) (within p (128 + length said) (omega arith))

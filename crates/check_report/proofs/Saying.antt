@@ -1,5 +1,5 @@
 -- What is said of the function that breaks a rule, put piece by piece.
-use Rattle.std.specs.Prelude.{if◌then◌else◌}
+use Rattle.std.specs.Prelude.{if◌then◌else◌, Err, None, Ok, Option, Result, Some}
 use mathlib.Core.Path.{◌≡◌, refl, sym, ap, ◌∙◌}
 use mathlib.Core.Bool.{Bool, true, false}
 use mathlib.Core.List.{List, [], ◌∷◌, ◌++◌, append_assoc}
@@ -13,8 +13,6 @@ use denote.Enum.Declared.{tag_of}
 use types.Run.{OneOf, miss}
 use borrow.Author.Tests.{eq-eqb, ne_eqb, lt-ltb, le-ltb}
 use Rattle.model.specs.declared.Counts.{Counts}
-use Rattle.model.specs.declared.Loaded.{Loaded}
-use Rattle.model.specs.declared.Loaded.TheVariants as l
 use Rattle.model.specs.Basics.{ascii}
 use Rattle.model.specs.Values.{text_at}
 use Rattle.model.specs.Opcodes.{popped, opcode_at}
@@ -35,8 +33,6 @@ use Rattle.noted_listing.proofs.Lent.{known_is}
 use Rattle.check_rules.specs.declared.Rule.{Rule}
 use Rattle.check_rules.specs.declared.Rule.TheVariants as r
 use Rattle.check_rules.specs.contracts.Rule.{the_type as the-rule}
-use Rattle.check_rules.specs.declared.Checked.{Checked}
-use Rattle.check_rules.specs.declared.Checked.TheVariants as c
 use Rattle.check_rules.specs.Rules.{get_local, first_at, second_at, code_of, is_main, rule_number}
 use Rattle.check_heights.specs.declared.Flaw.{Flaw}
 use Rattle.check_heights.specs.declared.Flaw.TheVariants as w
@@ -47,8 +43,12 @@ use Rattle.image_items.specs.declared.Part.TheVariants as part
 use Rattle.image_items.specs.Parts.{part_at}
 use Rattle.check_code.specs.Links.{Sized}
 use Rattle.check_places.specs.Places.{place_in, place_of, PlacePost}
-use Rattle.check_report.specs.Details.{row_words, part_words, operand_words, found_words, counts_words, want_words, lacks_words, flaw_words, function_words, loaded_words, details}
+use Rattle.check_report.specs.Details.{row_words, part_words, operand_words, found_words, counts_words, want_words, lacks_words, flaw_words, function_words, loaded_words, item_words, details}
 use Rattle.check_report.specs.Links.{CountsPost, FunctionPost, LoadedPost, of_heights, FlawAsked, asked, not_asked, Said}
+use Rattle.model.specs.declared.Refusal.{Refusal}
+use Rattle.check_rules.specs.declared.Rejected.{Rejected}
+use Rattle.model.specs.declared.Refusal.TheVariants as why
+use Rattle.check_rules.specs.declared.Rejected.TheVariants as no
 
 -- ---- an item of an image
 
@@ -122,25 +122,25 @@ pub ends_put : (n h : ℕ) {s₀ s₁ s₂ : List ℕ} {i₀ i₁ i₂ : ℕ} �
     → Put 80 (ascii " at " ++ decimal n ++ ascii ", the end, height " ++ decimal h) s₀ i₀ s₂ i₂
 ends_put n h x y = within (is (both x y) (simp append_assoc)) 80 (omega arith)
 
-module _ (code : List ℕ) {x : Flaw} {s s' : List ℕ} {at r : ℕ} where
-  pub lacks_said : {i h : ℕ} → x ≡ w.Lacks i h → Put 80 (lacks_words code i h) s at s' r → Put 80 (flaw_words x code) s at s' r
+module _ (code : List ℕ) {x : Option Flaw} {s s' : List ℕ} {at r : ℕ} where
+  pub lacks_said : {i h : ℕ} → x ≡ Some (w.Lacks i h) → Put 80 (lacks_words code i h) s at s' r → Put 80 (flaw_words x code) s at s' r
   unfolding flaw_words
   lacks_said e p = rw e p
 
-  pub differs_said : {i h k : ℕ} → x ≡ w.Differs i h k → Put 80 (ascii " at " ++ decimal i ++ ascii ", heights " ++ decimal h ++ ascii " and " ++ decimal k) s at s' r
+  pub differs_said : {i h k : ℕ} → x ≡ Some (w.Differs i h k) → Put 80 (ascii " at " ++ decimal i ++ ascii ", heights " ++ decimal h ++ ascii " and " ++ decimal k) s at s' r
       → Put 80 (flaw_words x code) s at s' r
   unfolding flaw_words
   differs_said e p = rw e p
 
-  pub ends_said : {h : ℕ} → x ≡ w.Ends h → Put 80 (ascii " at " ++ decimal (length code) ++ ascii ", the end, height " ++ decimal h) s at s' r → Put 80 (flaw_words x code) s at s' r
+  pub ends_said : {h : ℕ} → x ≡ Some (w.Ends h) → Put 80 (ascii " at " ++ decimal (length code) ++ ascii ", the end, height " ++ decimal h) s at s' r → Put 80 (flaw_words x code) s at s' r
   unfolding flaw_words
   ends_said e p = rw e p
 
-pub nothing_said : (code s : List ℕ) (at : ℕ) {x : Flaw} → x ≡ w.Nothing → Put 80 (flaw_words x code) s at s at
+pub nothing_said : (code s : List ℕ) (at : ℕ) {x : Option Flaw} → x ≡ None → Put 80 (flaw_words x code) s at s at
 unfolding flaw_words
 nothing_said code s at e = rw e (within (nothing s at) 80 (omega arith))
 
-pub place_put : (q : Rule) (i : ℕ) (x : Flaw) (code : List ℕ) {s s' s'' : List ℕ} {at r r' : ℕ} → Put 81 (found_words q code i) s at s' r → Put 80 (flaw_words x code) s' r s'' r'
+pub place_put : (q : Rule) (i : ℕ) (x : Option Flaw) (code : List ℕ) {s s' s'' : List ℕ} {at r r' : ℕ} → Put 81 (found_words q code i) s at s' r → Put 80 (flaw_words x code) s' r s'' r'
     → Put 161 (found_words q code i ++ flaw_words x code) s at s'' r'
 place_put q i x code a b = both a b
 
@@ -190,7 +190,7 @@ module _ (k : Counts) (functions text main other : List ℕ) (f : ℕ) where
   unfolding function_in lent
   code_fits e g h = rw (e.0 (stores_of [] [] [] [] [] [] [] []) text) (one_store (eqb f 0) main other (code_word functions f) g h)
 
-  module _ {q : Rule} {x : Flaw} {s₀ : List ℕ} where
+  module _ {q : Rule} {x : Option Flaw} {s₀ : List ℕ} where
     pub function_none : k.functions ≤ f → FunctionPost k functions text main other q f x s₀ s₀ 0
     unfolding function_words program_in
     function_none h = record {
@@ -216,27 +216,28 @@ module _ (k : Counts) (functions text main other : List ℕ) (f : ℕ) where
 
 -- ---- what was loaded
 
-module _ {functions text main other : List ℕ} {q : Rule} {f : ℕ} {x : Flaw} {a : Loaded} {s s' : List ℕ} {r : ℕ} where
-  pub loaded_put : {k : Counts} → a ≡ l.Done k → FunctionPost k functions text main other q f x s s' r → LoadedPost a functions text main other q f x s s' r
+module _ {functions text main other : List ℕ} {q : Rule} {f : ℕ} {x : Option Flaw} {a : Result Counts Refusal} {s s' : List ℕ} {r : ℕ} where
+  pub loaded_put : {k : Counts} → a ≡ Ok k → FunctionPost k functions text main other q f x s s' r → LoadedPost a functions text main other q f x s s' r
   unfolding loaded_words
   loaded_put e h = record { says = λ cs ss mp op. rw e (h.says cs ss mp op) }
 
-module _ {functions text main other : List ℕ} {q : Rule} {f : ℕ} {x : Flaw} {a : Loaded} (s : List ℕ) where
-  pub broken_unput : {i : ℕ} → a ≡ l.Broken i → LoadedPost a functions text main other q f x s s 0
-  unfolding loaded_words
-  broken_unput e = record { says = λ cs ss mp op. rw e (within (nothing s 0) 384 (omega arith)) }
-
-  pub refused_unput : {n : ℕ} → a ≡ l.Refused n → LoadedPost a functions text main other q f x s s 0
-  unfolding loaded_words
-  refused_unput e = record { says = λ cs ss mp op. rw e (within (nothing s 0) 384 (omega arith)) }
+pub refused_unput : {functions text main other : List ℕ} {q : Rule} {f : ℕ} {x : Option Flaw} {a : Result Counts Refusal} (s : List ℕ) {e : Refusal} → a ≡ Err e
+    → LoadedPost a functions text main other q f x s s 0
+unfolding loaded_words
+refused_unput s e = record { says = λ cs ss mp op. rw e (within (nothing s 0) 384 (omega arith)) }
 
 -- ---- of an image
 
+no_words : (image : List ℕ) (e : Refusal) → ((o : ℕ) → e ≡ why.BrokenImage o → ⊥) → item_words image e ≡ []
+unfolding item_words
+no_words image (why.BrokenImage o) d = absurd (d o refl)
+no_words image e d = refl
+
 module _ (image : List ℕ) where
-  pub flaw_asked : {q : Rule} {f : ℕ} {x : Flaw} → q ≡ r.Heights → FlawIn image f x → FlawAsked image (c.Breaks q f) x
+  pub flaw_asked : {q : Rule} {f : ℕ} {x : Option Flaw} → q ≡ r.Heights → FlawIn image f x → FlawAsked image (Err (no.Breaks q f)) x
   flaw_asked e h = rw e (asked h)
 
-  pub flaw_unasked : (q : Rule) {f : ℕ} → OneOf (0 ∷ 1 ∷ 2 ∷ 3 ∷ 4 ∷ []) (tag_of the-rule q) → FlawAsked image (c.Breaks q f) w.Nothing
+  pub flaw_unasked : (q : Rule) {f : ℕ} → OneOf (0 ∷ 1 ∷ 2 ∷ 3 ∷ 4 ∷ []) (tag_of the-rule q) → FlawAsked image (Err (no.Breaks q f)) None
   unfolding of_heights rule_number
   flaw_unasked r.Instructions n = not_asked refl
   flaw_unasked r.Numbers n = not_asked refl
@@ -245,27 +246,31 @@ module _ (image : List ℕ) where
   flaw_unasked r.Jumps n = not_asked refl
   flaw_unasked r.Heights n = absurd (miss (0 ∷ 1 ∷ 2 ∷ 3 ∷ 4 ∷ []) 5 tt n)
 
-  pub image_put : {a : Loaded} {constants structs functions text main main_places other other_places : List ℕ}
-      → record { answer = a; stores = stores_of constants structs functions text main main_places other other_places } ≡ load_of image empty_stores → {q : Rule} {f : ℕ} {x : Flaw}
-      → FlawAsked image (c.Breaks q f) x → {s s' : List ℕ} {n : ℕ} → LoadedPost a functions text main other q f x s s' n → Said image (c.Breaks q f) s s' n
+  pub image_put : {a : Result Counts Refusal} {constants structs functions text main main_places other other_places : List ℕ}
+      → record { answer = a; stores = stores_of constants structs functions text main main_places other other_places } ≡ load_of image empty_stores → {q : Rule} {f : ℕ} {x : Option Flaw}
+      → FlawAsked image (Err (no.Breaks q f)) x → {s s' : List ℕ} {n : ℕ} → LoadedPost a functions text main other q f x s s' n → Said image (Err (no.Breaks q f)) s s' n
   unfolding details
   image_put {constants = constants} {structs = structs} {main_places = main_places} {other_places = other_places} e {x = x} k h =
       record { flaw = x; finds = k; put = rw (← e) (h.says constants structs main_places other_places) }
 
-  module _ {x : Checked} (s : List ℕ) where
-    pub passed_plain : {k : Counts} → x ≡ c.Passed k → Said image x s s 0
+  module _ {x : Result Counts Rejected} (s : List ℕ) where
+    pub passed_plain : {k : Counts} → x ≡ Ok k → Said image x s s 0
     unfolding details of_heights
-    passed_plain e = record { flaw = w.Nothing; finds = rw e (not_asked refl); put = rw e (within (nothing s 0) 384 (omega arith)) }
+    passed_plain e = record { flaw = None; finds = rw e (not_asked refl); put = rw e (within (nothing s 0) 384 (omega arith)) }
 
-    pub refused_plain : {n : ℕ} → x ≡ c.Refused n → Said image x s s 0
-    unfolding details of_heights
-    refused_plain e = record { flaw = w.Nothing; finds = rw e (not_asked refl); put = rw e (within (nothing s 0) 384 (omega arith)) }
-
-  pub item_put : {x : Checked} {o : ℕ} → x ≡ c.Broken o → {s s' : List ℕ} {n : ℕ} → Put 96 (part_words (part_at image o)) s 0 s' n → Said image x s s' n
+  pub refused_put : {x : Result Counts Rejected} {e : Refusal} → x ≡ Err (no.Refused e) → {s s' : List ℕ} {n : ℕ} → Put 96 (item_words image e) s 0 s' n → Said image x s s' n
   unfolding details of_heights
-  item_put e p = record { flaw = w.Nothing; finds = rw e (not_asked refl); put = rw e (within p 384 (omega arith)) }
+  refused_put e p = record { flaw = None; finds = rw e (not_asked refl); put = rw e (within p 384 (omega arith)) }
 
-  pub breach_put : {x : Checked} {q : Rule} {f : ℕ} → x ≡ c.Breaks q f → {s s' : List ℕ} {n : ℕ} → Said image (c.Breaks q f) s s' n → Said image x s s' n
+  module _ (e : Refusal) where
+    pub item_put : {o : ℕ} → e ≡ why.BrokenImage o → {s s' : List ℕ} {n : ℕ} → Put 96 (part_words (part_at image o)) s 0 s' n → Put 96 (item_words image e) s 0 s' n
+    unfolding item_words
+    item_put q p = rw q p
+
+    pub no_item : ((o : ℕ) → e ≡ why.BrokenImage o → ⊥) → (s : List ℕ) → Put 96 (item_words image e) s 0 s 0
+    no_item d s = rw (no_words image e d) (within (nothing s 0) 96 (omega arith))
+
+  pub breach_put : {x : Result Counts Rejected} {q : Rule} {f : ℕ} → x ≡ Err (no.Breaks q f) → {s s' : List ℕ} {n : ℕ} → Said image (Err (no.Breaks q f)) s s' n → Said image x s s' n
   breach_put e p = rw e p
 
 -- ---- what was said, as a slice

@@ -1,13 +1,17 @@
 -- [check] What the checker prints: facts, a line each, that a program can read; and behind a refusal one line in plain words.
-use Rattle.std.specs.Prelude.{List, [], ◌++◌, ℕ, zero, suc, eqb, get_or, if◌then◌else◌}
+use Rattle.std.specs.Prelude.{List, [], ◌++◌, ℕ, zero, suc, get_or, Err, Ok, Result}
 use Rattle.model.specs.Basics.{ascii}
+use Rattle.model.specs.Answers.{refusal_number}
 use Rattle.model.specs.Listings.{decimal}
 use Rattle.model.specs.Reports.{refused_line}
 use Rattle.check_rules.specs.declared.Rule.{Rule}
 use Rattle.check_rules.specs.declared.Rule.TheVariants as r
-use Rattle.check_rules.specs.declared.Checked.{Checked}
-use Rattle.check_rules.specs.declared.Checked.TheVariants as c
 use Rattle.check_rules.specs.Rules.{rule_number}
+use Rattle.model.specs.declared.Counts.{Counts}
+use Rattle.check_rules.specs.declared.Rejected.{Rejected}
+use Rattle.model.specs.declared.Refusal.{Refusal}
+use Rattle.model.specs.declared.Refusal.TheVariants as why
+use Rattle.check_rules.specs.declared.Rejected.TheVariants as no
 
 -- ---- the facts
 
@@ -25,11 +29,14 @@ broken_line i = ascii "refused 20 at " ++ decimal i ++ ascii "\n"
 unfoldable pub breach_line : Rule → (f : ℕ) → List ℕ
 breach_line q f = ascii "refused 40 rule " ++ decimal (rule_number q) ++ ascii " function " ++ decimal f ++ ascii "\n"
 
-unfoldable pub facts_text : Checked → (heights : List ℕ) → List ℕ
-facts_text (c.Passed k) hs = ascii "passed\n" ++ height_lines k.functions 0 hs
-facts_text (c.Broken i) hs = broken_line i
-facts_text (c.Refused n) hs = refused_line n
-facts_text (c.Breaks q f) hs = breach_line q f
+unfoldable pub refused_facts : Refusal → List ℕ
+refused_facts (why.BrokenImage i) = broken_line i
+refused_facts e = refused_line (refusal_number e)
+
+unfoldable pub facts_text : Result Counts Rejected → (heights : List ℕ) → List ℕ
+facts_text (Ok k) hs = ascii "passed\n" ++ height_lines k.functions 0 hs
+facts_text (Err (no.Refused e)) hs = refused_facts e
+facts_text (Err (no.Breaks q f)) hs = breach_line q f
 
 -- ---- the words
 
@@ -37,12 +44,12 @@ facts_text (c.Breaks q f) hs = breach_line q f
 unfoldable pub broken_words : (offset : ℕ) → (said : List ℕ) → List ℕ
 broken_words i said = ascii "the bytes are no rule image: the item at offset " ++ decimal i ++ ascii " breaks a rule" ++ said ++ ascii "\n"
 
--- 17, 21, and 22, of the checker's own stores
-unfoldable pub refused_words : ℕ → List ℕ
-refused_words n =
-    if eqb n 17 then ascii "the image has more than 256 functions\n"
-    else (if eqb n 21 then ascii "the image has more than the programs' stores hold; a host with larger stores may pass it\n"
-    else ascii "the image is longer than 16,384 bytes, or has more than the limits allow\n")
+-- 20; 17, 21, and 22, of the checker's own stores
+unfoldable pub refused_words : Refusal → (said : List ℕ) → List ℕ
+refused_words (why.BrokenImage i) said = broken_words i said
+refused_words why.ResultTooShort said = ascii "the image has more than 256 functions\n"
+refused_words why.StoreFull said = ascii "the image has more than the programs' stores hold; a host with larger stores may pass it\n"
+refused_words e said = ascii "the image is longer than 16,384 bytes, or has more than the limits allow\n"
 
 unfoldable pub rule_words : Rule → List ℕ
 rule_words r.Instructions = ascii "not a row of whole carried instructions\n"
@@ -55,13 +62,12 @@ rule_words r.Heights = ascii "no one height at each place that is reached, too f
 unfoldable pub breach_words : Rule → (f : ℕ) → (said : List ℕ) → List ℕ
 breach_words q f said = ascii "function " ++ decimal f ++ said ++ ascii ": " ++ rule_words q
 
-unfoldable pub words_text : Checked → (said : List ℕ) → List ℕ
-words_text (c.Passed k) said = []
-words_text (c.Broken i) said = broken_words i said
-words_text (c.Refused n) said = refused_words n
-words_text (c.Breaks q f) said = breach_words q f said
+unfoldable pub words_text : Result Counts Rejected → (said : List ℕ) → List ℕ
+words_text (Ok k) said = []
+words_text (Err (no.Refused e)) said = refused_words e said
+words_text (Err (no.Breaks q f)) said = breach_words q f said
 
 -- ---- both
 
-unfoldable pub checked_text : Checked → (said heights : List ℕ) → List ℕ
+unfoldable pub checked_text : Result Counts Rejected → (said heights : List ℕ) → List ℕ
 checked_text a said hs = facts_text a hs ++ words_text a said

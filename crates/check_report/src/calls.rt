@@ -5,7 +5,7 @@ ghost use Rattle.check_report.specs.Details.{called_words};
 ghost use Rattle.check_report.specs.Links.{CalledPost, CountsPost};
 
 use check_code::second_at;
-use check_places::{Called, count_told, first_call};
+use check_places::{CallSite, first_call};
 use check_rules::{Rule, rule_number};
 use listing::code_of;
 use model::Counts;
@@ -20,34 +20,36 @@ fn first_called<'a>(
     functions: &[u64],
     main: &'a [u8],
     other: &'a [u8],
-) -> Called
+) -> Option<CallSite>
     ensures { CalledPost f any k n functions.now main.now other.now result }
 {
-    let mut g = 0;
-    while g < n {
+    for g in 0..n {
         let code = code_of(functions, main, other, g);
         let i = first_call(f, any, k, code);
         if i < code.len() {
             let count = second_at(code, i);
-            return Called::At(g, i, count);
+            return Some(CallSite {
+                function: g,
+                position: i,
+                count,
+            });
         }
-        g += 1;
     }
-    Called::Nowhere
+    None
 }
 
 // A Call.
-fn put_called(x: Called, out: &mut [u8], at: usize) -> usize
+fn put_called(x: Option<CallSite>, out: &mut [u8], at: usize) -> usize
     requires { at + 84 < 2 ^ 64 }
     ensures { Put 84 (called_words x) out.old at out.new result }
 {
     match x {
-        Called::At(g, i, n) => {
-            let count = put_count(b", with ", n, out, at);
-            let function = put_count(b" by function ", g, out, count);
-            put_count(b" at ", i, out, function)
+        Some(call) => {
+            let count = put_count(b", with ", call.count, out, at);
+            let function = put_count(b" by function ", call.function, out, count);
+            put_count(b" at ", call.position, out, function)
         }
-        Called::Nowhere => at,
+        None => at,
     }
 }
 
@@ -68,7 +70,7 @@ pub fn put_counts<'a>(
     if rule_number(q) == 4 {
         let n = c.functions;
         let first = first_called(f, true, 0, n, functions, main, other);
-        let taken = count_told(first);
+        let taken = first.map_or(0, |call| call.count);
         let second = first_called(f, false, taken, n, functions, main, other);
         let next = put_called(first, out, at);
         return put_called(second, out, next);

@@ -1,10 +1,10 @@
 // What is said of the function that breaks a rule: its name, and the first instruction that breaks it, or what its heights came upon.
-ghost use Rattle.std.specs.Prelude.{◌++◌, ◌+◌, ◌≤◌, ◌<◌, ◌^◌, length};
+ghost use Rattle.std.specs.Prelude.{◌++◌, ◌+◌, ◌≤◌, ◌<◌, ◌^◌, length, Err};
 ghost use Rattle.model.specs.Basics.{ascii};
 ghost use Rattle.model.specs.Listings.{decimal};
-ghost use Rattle.check_rules.specs.declared.Checked.TheVariants.{Breaks};
 ghost use Rattle.printing.specs.Links.{Put};
-ghost use Rattle.check_report.specs.Details.{operand_words, found_words, want_words, lacks_words, flaw_words};
+ghost use Rattle.check_rules.specs.declared.Rejected.TheVariants as no;
+ghost use Rattle.check_report.specs.Details.{operand_words, found_words, want_words, lacks_words, flaw_words, item_words};
 ghost use Rattle.check_report.specs.Links.{FunctionPost, LoadedPost, FlawAsked, Said};
 
 use crate::calls::put_counts;
@@ -13,10 +13,10 @@ use check_code::{first_at, second_at};
 use check_heights::Flaw;
 use check_image::flaws::height_flaw;
 use check_places::first_place;
-use check_rules::{Checked, Rule, rule_number};
+use check_rules::{Rejected, Rule, rule_number};
 use image_load::load;
 use listing::code_of;
-use model::{Counts, Loaded};
+use model::{Counts, Refusal};
 use notes::put_name_at;
 use opcode::popped;
 use printing::{put_count, put_text};
@@ -39,7 +39,7 @@ fn put_found(q: Rule, code: &[u8], i: usize, out: &mut [u8], at: usize) -> usize
     ensures { Put 81 (found_words q code.now i) out.old at out.new result }
 {
     if i < code.len() {
-        let b = code[i] as usize;
+        let b = usize::from(code[i]);
         let place = put_count(b" at ", i, out, at);
         let byte = put_count(b", byte ", b, out, place);
         return put_operand(q, code, i, out, byte);
@@ -98,20 +98,20 @@ fn put_ends(n: usize, h: u32, out: &mut [u8], at: usize) -> usize
 }
 
 // What the heights came upon.
-fn put_flaw(x: Flaw, code: &[u8], out: &mut [u8], at: usize) -> usize
+fn put_flaw(x: Option<Flaw>, code: &[u8], out: &mut [u8], at: usize) -> usize
     requires { at + 80 < 2 ^ 64 }
     ensures { Put 80 (flaw_words x code.now) out.old at out.new result }
 {
     match x {
-        Flaw::Nothing => at,
-        Flaw::Lacks(i, h) => put_lacks(code, i, h, out, at),
-        Flaw::Differs(i, h, k) => put_differs(i, h, k, out, at),
-        Flaw::Ends(h) => put_ends(code.len(), h, out, at),
+        None => at,
+        Some(Flaw::Lacks(i, h)) => put_lacks(code, i, h, out, at),
+        Some(Flaw::Differs(i, h, k)) => put_differs(i, h, k, out, at),
+        Some(Flaw::Ends(h)) => put_ends(code.len(), h, out, at),
     }
 }
 
 // Where a code breaks the rule: the instruction at i, if there is one, or what the heights came upon.
-fn put_place(q: Rule, i: usize, x: Flaw, code: &[u8], out: &mut [u8], at: usize) -> usize
+fn put_place(q: Rule, i: usize, x: Option<Flaw>, code: &[u8], out: &mut [u8], at: usize) -> usize
     requires { at + 161 < 2 ^ 64 }
     ensures { Put 161 (found_words q code.now i ++ flaw_words x code.now) out.old at out.new result }
 {
@@ -123,7 +123,7 @@ fn put_place(q: Rule, i: usize, x: Flaw, code: &[u8], out: &mut [u8], at: usize)
 fn put_function<'a>(
     q: Rule,
     f: usize,
-    x: Flaw,
+    x: Option<Flaw>,
     c: Counts,
     functions: &[u64],
     text: &[u8],
@@ -149,10 +149,10 @@ fn put_function<'a>(
 
 // The function of what was loaded.
 fn put_loaded<'a>(
-    loaded: Loaded,
+    loaded: Result<Counts, Refusal>,
     q: Rule,
     f: usize,
-    x: Flaw,
+    x: Option<Flaw>,
     functions: &[u64],
     text: &[u8],
     main: &'a [u8],
@@ -164,25 +164,24 @@ fn put_loaded<'a>(
     ensures { LoadedPost loaded functions.now text.now main.now other.now q f x out.old out.new result }
 {
     match loaded {
-        Loaded::Done(c) => put_function(q, f, x, c, functions, text, main, other, marks, out),
-        Loaded::Broken(i) => 0,
-        Loaded::Refused(n) => 0,
+        Ok(c) => put_function(q, f, x, c, functions, text, main, other, marks, out),
+        Err(_) => 0,
     }
 }
 
 // What is asked of the heights: of rule 6 what breaks it.
-fn flaw_for(q: Rule, f: usize, image: &[u8]) -> Flaw
-    ensures { FlawAsked image.now (Breaks q f) result }
+fn flaw_for(q: Rule, f: usize, image: &[u8]) -> Option<Flaw>
+    ensures { FlawAsked image.now (Err (no.Breaks q f)) result }
 {
     match q {
         Rule::Heights => height_flaw(image, f),
-        _ => Flaw::Nothing,
+        _ => None,
     }
 }
 
 // The function that breaks a rule. The image is loaded for it, in stores of its own: the check that refused it has written none.
 fn put_breaking(q: Rule, f: usize, image: &[u8], out: &mut [u8]) -> usize
-    ensures { Said image.now (Breaks q f) out.old out.new result }
+    ensures { Said image.now (Err (no.Breaks q f)) out.old out.new result }
 {
     let mut constants = [0u64; 512];
     let mut structs = [0u64; 512];
@@ -210,14 +209,23 @@ fn put_breaking(q: Rule, f: usize, image: &[u8], out: &mut [u8]) -> usize
     )
 }
 
+// Of bytes that are no image, the item that breaks a rule.
+fn put_refused(why: Refusal, image: &[u8], out: &mut [u8]) -> usize
+    ensures { Put 96 (item_words image.now why) out.old 0 out.new result }
+{
+    let Refusal::BrokenImage(o) = why else {
+        return 0;
+    };
+    put_item(o, image, out)
+}
+
 // What is said besides: of bytes that are no image the item that breaks a rule, and of a function that breaks one where it does.
-pub fn put_details(answer: Checked, image: &[u8], out: &mut [u8]) -> usize
+pub fn put_details(answer: Result<Counts, Rejected>, image: &[u8], out: &mut [u8]) -> usize
     ensures { Said image.now answer out.old out.new result }
 {
     match answer {
-        Checked::Passed(c) => 0,
-        Checked::Broken(o) => put_item(o, image, out),
-        Checked::Refused(n) => 0,
-        Checked::Breaks(q, f) => put_breaking(q, f, image, out),
+        Ok(_) => 0,
+        Err(Rejected::Refused(why)) => put_refused(why, image, out),
+        Err(Rejected::Breaks(q, f)) => put_breaking(q, f, image, out),
     }
 }

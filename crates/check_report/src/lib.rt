@@ -17,11 +17,17 @@ use crate::details::put_details;
 use crate::facts::put_facts;
 use crate::words::put_words;
 use check_image::check;
-use check_rules::Checked;
+use check_rules::Rejected;
 use layout::reads::room;
+use model::{Counts, Refusal};
 
 // The facts, and the words behind them.
-fn put_checked(answer: Checked, said: &[u8], heights: &[u32], out: &mut [u8]) -> usize
+fn put_checked(
+    answer: Result<Counts, Rejected>,
+    said: &[u8],
+    heights: &[u32],
+    out: &mut [u8],
+) -> usize
     requires { (Tellable answer heights.now) × (length said.now ≤ 384) }
     ensures { Put (608 + 64 * length heights.now) (checked_text answer said.now heights.now) out.old 0 out.new result }
 {
@@ -30,7 +36,12 @@ fn put_checked(answer: Checked, said: &[u8], heights: &[u32], out: &mut [u8]) ->
 }
 
 // An answer's text. It is measured first, with no room to write into.
-fn print_checked(answer: Checked, said: &[u8], heights: &[u32], out: &mut [u8]) -> usize
+fn print_checked(
+    answer: Result<Counts, Rejected>,
+    said: &[u8],
+    heights: &[u32],
+    out: &mut [u8],
+) -> usize
     requires { (Tellable answer heights.now) × (length said.now ≤ 384) }
     ensures { record { count = result; out = out.new } ≡ printed (checked_text answer said.now heights.now) out.old }
 {
@@ -43,11 +54,11 @@ fn print_checked(answer: Checked, said: &[u8], heights: &[u32], out: &mut [u8]) 
 }
 
 // An image of at most 16,384 bytes, checked in stores of its own.
-fn check_alone(image: &[u8], heights: &mut [u32]) -> Checked
+fn check_alone(image: &[u8], heights: &mut [u32]) -> Result<Counts, Rejected>
     ensures { Answers image.now heights.old result heights.new }
 {
     if 16384 < image.len() {
-        return Checked::Refused(22);
+        return Err(Rejected::Refused(Refusal::OverLimit));
     }
     let mut constants = [0u64; 512];
     let mut structs = [0u64; 512];

@@ -3,29 +3,29 @@ ghost use Rattle.std.specs.Prelude.{◌+◌, ◌<◌, ◌^◌, length};
 ghost use Rattle.printing.specs.Links.{Put};
 ghost use Rattle.check_report.specs.Texts.{broken_words, refused_words, rule_words, breach_words, words_text};
 
-use check_rules::{Checked, Rule};
+use check_rules::{Rejected, Rule};
+use model::{Counts, Refusal};
 use printing::{put_count, put_text};
 
-// Why an image that is one was refused before its rules were looked at.
-fn put_refused_words(n: u8, out: &mut [u8], at: usize) -> usize
-    requires { at + 128 < 2 ^ 64 }
-    ensures { Put 128 (refused_words n) out.old at out.new result }
+// Why an image was refused before its rules were looked at.
+fn put_refused_words(why: Refusal, said: &[u8], out: &mut [u8], at: usize) -> usize
+    requires { at + (128 + length said.now) < 2 ^ 64 }
+    ensures { Put (128 + length said.now) (refused_words why said.now) out.old at out.new result }
 {
-    if n == 17 {
-        return put_text(b"the image has more than 256 functions\n", out, at);
-    }
-    if n == 21 {
-        return put_text(
+    match why {
+        Refusal::BrokenImage(i) => put_broken_words(i, said, out, at),
+        Refusal::ResultTooShort => put_text(b"the image has more than 256 functions\n", out, at),
+        Refusal::StoreFull => put_text(
             b"the image has more than the programs' stores hold; a host with larger stores may pass it\n",
             out,
             at,
-        );
+        ),
+        _ => put_text(
+            b"the image is longer than 16,384 bytes, or has more than the limits allow\n",
+            out,
+            at,
+        ),
     }
-    put_text(
-        b"the image is longer than 16,384 bytes, or has more than the limits allow\n",
-        out,
-        at,
-    )
 }
 
 // How a rule is broken.
@@ -79,14 +79,13 @@ fn put_breach_words(q: Rule, f: usize, said: &[u8], out: &mut [u8], at: usize) -
 }
 
 // A refusal in plain words; of what passed there is nothing to say.
-pub fn put_words(answer: Checked, said: &[u8], out: &mut [u8], at: usize) -> usize
+pub fn put_words(answer: Result<Counts, Rejected>, said: &[u8], out: &mut [u8], at: usize) -> usize
     requires { at + (128 + length said.now) < 2 ^ 64 }
     ensures { Put (128 + length said.now) (words_text answer said.now) out.old at out.new result }
 {
     match answer {
-        Checked::Passed(_) => at,
-        Checked::Broken(i) => put_broken_words(i, said, out, at),
-        Checked::Refused(n) => put_refused_words(n, out, at),
-        Checked::Breaks(q, f) => put_breach_words(q, f, said, out, at),
+        Ok(_) => at,
+        Err(Rejected::Refused(why)) => put_refused_words(why, said, out, at),
+        Err(Rejected::Breaks(q, f)) => put_breach_words(q, f, said, out, at),
     }
 }

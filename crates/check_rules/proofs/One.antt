@@ -1,4 +1,5 @@
 -- No second answer fits: of one image in one set of stores the check says one thing, and leaves one thing.
+use Rattle.std.specs.Prelude.{Err, Ok, Result}
 use mathlib.Core.Path.{◌≡◌, refl, sym, ap, subst, ◌∙◌}
 use mathlib.Core.Bool.{Bool, true, false, true≢false}
 use mathlib.Core.List.{List, [], ◌∷◌}
@@ -6,6 +7,8 @@ use Prim.Native.Nat.{ℕ, zero, suc, ◌≤◌, ◌<◌}
 use native.Mathlib.Omega.{arith}
 use lib.ListN.{length, get_or}
 use lib.Seq.{ext_get_or}
+use Rattle.model.specs.declared.Counts.{Counts}
+use Rattle.model.specs.declared.Refusal.TheVariants as why
 use Rattle.model.specs.Values.{places}
 use Rattle.model.specs.Programs.{Program, within_limits}
 use Rattle.model.specs.Images.{Judged, fine, broken, judge}
@@ -14,8 +17,8 @@ use Rattle.model.specs.Emission.{written}
 use Rattle.model.specs.Loading.{laid, counts_for, room_for}
 use Rattle.check_rules.specs.declared.Rule.{Rule}
 use Rattle.check_rules.specs.declared.Rule.TheVariants as r
-use Rattle.check_rules.specs.declared.Checked.{Checked}
-use Rattle.check_rules.specs.declared.Checked.TheVariants as c
+use Rattle.check_rules.specs.declared.Rejected.{Rejected}
+use Rattle.check_rules.specs.declared.Rejected.TheVariants as no
 use Rattle.check_rules.specs.Rules.{Greatest, rule_number, Passed, Broken}
 use Rattle.check_rules.specs.Checks.{HeightsOf, CheckAs, not_an_image, no_place_lem, past_a_limit, no_room, breaks, passes}
 
@@ -84,7 +87,7 @@ none_broken {p} {q} {f} a b = b.breaks (a q f b.known)
 
 -- ---- THE LAW
 
-pub record SameCheck (x y : Checked) (hs ks : List ℕ) (s t : Stores) : Type 0 where
+pub record SameCheck (x y : Result Counts Rejected) (hs ks : List ℕ) (s t : Stores) : Type 0 where
   pub answer : x ≡ y
   pub heights : hs ≡ ks
   pub stores : s ≡ t
@@ -103,26 +106,26 @@ module _ (image heights : List ℕ) (s : Stores) where
   not_kept {p} {q} j k {e} {f} b a = none_broken a (subst (λ (x : Program). Broken x e f) (same_program j k) b)
 
   broken_alike : {p q : Program} → judge image ≡ fine p → judge image ≡ fine q → {d e : Rule} {f g : ℕ} → Broken p d f → Broken q e g
-      → SameCheck (c.Breaks d f) (c.Breaks e g) heights heights s s
+      → SameCheck (Err (no.Breaks d f)) (Err (no.Breaks e g)) heights heights s s
   broken_alike {p} {q} j k {d} {e} {f} {g} a b =
       let here : Broken q d f = subst (λ (x : Program). Broken x d f) (same_program j k) a in
       let rule = one_rule here b in
       let function = one_function_lem (subst (λ (x : Rule). Broken q x f) rule here) b in
-      record { answer = ap (λ (x : Rule). c.Breaks x f) rule ∙ ap (c.Breaks e) function; heights = refl; stores = refl }
+      record { answer = ap (λ (x : Rule). Err (no.Breaks x f)) rule ∙ ap (λ (g : ℕ). Err (no.Breaks e g)) function; heights = refl; stores = refl }
 
   passed_alike : {p q : Program} → judge image ≡ fine p → judge image ≡ fine q → {hs ks : List ℕ} → HeightsOf p hs → HeightsOf q ks
-      → SameCheck (c.Passed (counts_for p)) (c.Passed (counts_for q)) (written heights 0 hs) (written heights 0 ks) (laid p s) (laid q s)
+      → SameCheck (Ok (counts_for p)) (Ok (counts_for q)) (written heights 0 hs) (written heights 0 ks) (laid p s) (laid q s)
   passed_alike {p} {q} j k {hs} {ks} a b =
       let same = same_program j k in
       record {
-        answer = ap (λ (x : Program). c.Passed (counts_for x)) same;
+        answer = ap (λ (x : Program). Ok (counts_for x)) same;
         heights = ap (written heights 0) (one_row_of_heights (subst (λ (x : Program). HeightsOf x hs) same a) b);
         stores = ap (λ (x : Program). laid x s) same;
       }
 
   -- two answers of one image, and what they leave
-  pub check_one : {x y : Checked} {hs ks : List ℕ} {t u : Stores} → CheckAs image heights s x hs t → CheckAs image heights s y ks u → SameCheck x y hs ks t u
-  check_one (not_an_image j₁) (not_an_image j₂) = record { answer = ap c.Broken (same_offset j₁ j₂); heights = refl; stores = refl }
+  pub check_one : {x y : Result Counts Rejected} {hs ks : List ℕ} {t u : Stores} → CheckAs image heights s x hs t → CheckAs image heights s y ks u → SameCheck x y hs ks t u
+  check_one (not_an_image j₁) (not_an_image j₂) = record { answer = ap (λ (i : ℕ). Err (no.Refused (why.BrokenImage i))) (same_offset j₁ j₂); heights = refl; stores = refl }
   check_one (not_an_image j₁) (no_place_lem j₂ l₂) = absurd (not_both j₁ j₂)
   check_one (not_an_image j₁) (past_a_limit j₂ m₂ w₂) = absurd (not_both j₁ j₂)
   check_one (not_an_image j₁) (no_room j₂ m₂ w₂ r₂) = absurd (not_both j₁ j₂)

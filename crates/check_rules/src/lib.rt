@@ -4,7 +4,7 @@
 ghost use Rattle.std.specs.Prelude.{◌≡◌};
 ghost use Rattle.check_rules.specs.Rules.{rule_number};
 
-use model::Counts;
+use model::Refusal;
 
 // The six rules, in their order.
 #[derive(Clone, Copy)]
@@ -31,12 +31,10 @@ pub fn rule_number(q: Rule) -> usize
     }
 }
 
-// What the check answers: passed and loaded, with the counts; or a refusal. Broken is refusal 20 with the offset of the first item that breaks a
-// rule of the image, Breaks is refusal 40 with the first broken rule and the lowest function that breaks it.
+// Why the check does not load an image: Refused is refusal 20, 17, 22 or 21, in that order, Breaks is refusal 40 with the first broken rule and the
+// lowest function that breaks it.
 #[derive(Clone, Copy)]
-pub enum Checked {
-    Passed(Counts),
-    Broken(usize),
-    Refused(u8),
+pub enum Rejected {
+    Refused(Refusal),
     Breaks(Rule, usize),
 }

@@ -5,7 +5,7 @@
 --     check-waits                a run is under way
 --     check-crosses              the entry, all but its frame
 --     frame-placed, frame-laid, frame-not      and the frame
-use Rattle.std.specs.Prelude.{if◌then◌else◌}
+use Rattle.std.specs.Prelude.{if◌then◌else◌, Result}
 use mathlib.Core.Path.{◌≡◌, refl, sym, ap, ◌∙◌}
 use mathlib.Core.Bool.{Bool, true, false, ◌&&◌}
 use mathlib.Core.List.{List, [], ◌++◌, append-nil}
@@ -24,14 +24,14 @@ use Rattle.model.specs.Stores.{Stores, with_functions}
 use Rattle.model.specs.Loading.{room_for}
 use Rattle.model.specs.Runs.{root}
 use Rattle.image_load.proofs.Loads.{room_of_lem}
-use Rattle.check_rules.specs.declared.Checked.{Checked}
-use Rattle.check_rules.specs.declared.Checked.TheVariants as c
 use Rattle.check_rules.specs.Checks as k
 use Rattle.check_rules.specs.Checks.{CheckAs}
 use Rattle.embed_words.specs.Coding.{Coded, under_way, out_refusal}
 use Rattle.check_words.specs.Words.{checked_coded, has_places, has_room, CheckIdle, not_an_image, no_place_lem, past_a_limit, no_room, breaks, passes}
 use Rattle.check_words.specs.Words.{CheckThrough, under_way_lem, idle, frames_after, CheckBeside}
 use Rattle.check_words.proofs.Judged.{an_image_has_main}
+use Rattle.model.specs.declared.Counts.{Counts}
+use Rattle.check_rules.specs.declared.Rejected.{Rejected}
 
 -- the record and the answer are long enough
 abbrev pub long : (w a : List ℕ) → Bool
@@ -69,7 +69,7 @@ module _ (p : Program) (s : Stores) (fs : List Frame) where
 
 module _ (image w a heights : List ℕ) (s : Stores) (fs : List Frame) where
   -- everything is lent
-  whole : long w a ≡ true → leb 1 (length fs) ≡ true → {x : Checked} {hs : List ℕ} {t : Stores} → CheckAs image heights s x hs t
+  whole : long w a ≡ true → leb 1 (length fs) ≡ true → {x : Result Counts Rejected} {hs : List ℕ} {t : Stores} → CheckAs image heights s x hs t
       → CheckIdle image w a heights s fs (checked_coded x w a) hs t (frames_after (checked_coded x w a).number fs)
   unfolding checked_coded frames_after
   whole e f (k.not_an_image j) = not_an_image j
@@ -80,7 +80,7 @@ module _ (image w a heights : List ℕ) (s : Stores) (fs : List Frame) where
   whole e f (k.passes {p} j m b r d h) = passes j (has_places_lem p w a heights e m) b (has_room_lem p s fs f r) d h
 
   -- what a refusal leaves: the heights and stores that were lent, as they were
-  record Refuses (lent : List ℕ) (t₀ : Stores) (x : Checked) (hs : List ℕ) (t : Stores) : Type 0 where
+  record Refuses (lent : List ℕ) (t₀ : Stores) (x : Result Counts Rejected) (hs : List ℕ) (t : Stores) : Type 0 where
     through : CheckIdle image w a heights s fs (checked_coded x w a) heights s (frames_after (checked_coded x w a).number fs)
     heights_kept : hs ≡ lent
     stores_kept : t ≡ t₀
@@ -89,7 +89,7 @@ module _ (image w a heights : List ℕ) (s : Stores) (fs : List Frame) where
   main_of_lem {p} j = an_image_has_main image p j
 
   -- no place for a height is lent
-  placeless : long w a ≡ false → {t₀ : Stores} {x : Checked} {hs : List ℕ} {t : Stores} → CheckAs image [] t₀ x hs t → Refuses [] t₀ x hs t
+  placeless : long w a ≡ false → {t₀ : Stores} {x : Result Counts Rejected} {hs : List ℕ} {t : Stores} → CheckAs image [] t₀ x hs t → Refuses [] t₀ x hs t
   unfolding checked_coded frames_after places
   placeless e (k.not_an_image j) = record { through = not_an_image j; heights_kept = refl; stores_kept = refl }
   placeless e (k.no_place_lem {p} j l) = record { through = no_place_lem j (has_none p w a heights e); heights_kept = refl; stores_kept = refl }
@@ -105,7 +105,7 @@ module _ (image w a heights : List ℕ) (s : Stores) (fs : List Frame) where
       let some = main_of_lem j in let room = (room_of_lem p t r).functions in let none = ap (places 2) e in
       let z : ⊥ = omega arith in z
 
-  frameless : long w a ≡ true → leb 1 (length fs) ≡ false → {t₀ : Stores} → t₀.functions ≡ [] → {x : Checked} {hs : List ℕ} {t : Stores}
+  frameless : long w a ≡ true → leb 1 (length fs) ≡ false → {t₀ : Stores} → t₀.functions ≡ [] → {x : Result Counts Rejected} {hs : List ℕ} {t : Stores}
       → CheckAs image heights t₀ x hs t → Refuses heights t₀ x hs t
   unfolding checked_coded frames_after
   frameless e f n (k.not_an_image j) = record { through = not_an_image j; heights_kept = refl; stores_kept = refl }
@@ -120,12 +120,12 @@ module _ (image w a heights : List ℕ) (s : Stores) (fs : List Frame) where
   frameless e f n (k.passes j m b r d h) = absurd (roomless j _ n r)
 
   -- what is left of the heights and of the stores is joined to what was not lent
-  crosses_placeless : long w a ≡ false → (grow : Stores → Stores) (t₀ : Stores) → grow t₀ ≡ s → {x : Checked} {hs : List ℕ} {t : Stores} → CheckAs image [] t₀ x hs t
+  crosses_placeless : long w a ≡ false → (grow : Stores → Stores) (t₀ : Stores) → grow t₀ ≡ s → {x : Result Counts Rejected} {hs : List ℕ} {t : Stores} → CheckAs image [] t₀ x hs t
       → CheckIdle image w a heights s fs (checked_coded x w a) (hs ++ heights) (grow t) (frames_after (checked_coded x w a).number fs)
   crosses_placeless e grow t₀ g h = let r = placeless e h in rw (r.heights_kept, r.stores_kept, g) r.through
 
   crosses_frameless : long w a ≡ true → leb 1 (length fs) ≡ false → (grow : Stores → Stores) (t₀ : Stores) → t₀.functions ≡ [] → grow t₀ ≡ s
-      → {x : Checked} {hs : List ℕ} {t : Stores} → CheckAs image heights t₀ x hs t
+      → {x : Result Counts Rejected} {hs : List ℕ} {t : Stores} → CheckAs image heights t₀ x hs t
       → CheckIdle image w a heights s fs (checked_coded x w a) (hs ++ []) (grow t) (frames_after (checked_coded x w a).number fs)
   crosses_frameless e f grow t₀ n g h = let r = frameless e f n h in rw (r.heights_kept, append-nil heights, r.stores_kept, g) r.through
 
@@ -155,7 +155,7 @@ module _ (w a : List ℕ) where
 abbrev grown : ℕ → Stores → Stores → Stores
 grown j s t = with_functions (t.functions ++ drop j s.functions) t
 
-module _ (image w a heights : List ℕ) (s : Stores) (x : Checked) (hs : List ℕ) (t : Stores) where
+module _ (image w a heights : List ℕ) (s : Stores) (x : Result Counts Rejected) (hs : List ℕ) (t : Stores) where
   abbrev Through : List Frame → ℕ → ℕ → Type 0
   Through fs k j =
       CheckIdle image w a heights s fs (checked_coded x w a) (hs ++ drop k heights) (grown j s t) (frames_after (checked_coded x w a).number fs)

@@ -1,6 +1,6 @@
 -- No second answer fits: of one image and one set of slices the entry says one thing, and leaves one thing. Each of its answers is one of the check
 -- itself, of what it is lent: no place for a height where the record or the answer is too short, no function where no frame has a place.
-use Rattle.std.specs.Prelude.{if◌then◌else◌}
+use Rattle.std.specs.Prelude.{if◌then◌else◌, Result}
 use mathlib.Core.Path.{◌≡◌, refl, sym, ap, ◌∙◌}
 use mathlib.Core.Bool.{Bool, true, false, true≢false}
 use mathlib.Core.List.{List, []}
@@ -15,7 +15,6 @@ use Rattle.model.specs.Programs.{Program}
 use Rattle.model.specs.Images.{fine, judge}
 use Rattle.model.specs.Stores.{Stores, with_functions}
 use Rattle.model.specs.Loading.{room_for}
-use Rattle.check_rules.specs.declared.Checked.{Checked}
 use Rattle.check_rules.specs.Checks as k
 use Rattle.check_rules.specs.Checks.{CheckAs}
 use Rattle.check_rules.proofs.One.{check_one}
@@ -23,6 +22,8 @@ use Rattle.embed_words.specs.Coding.{Coded}
 use Rattle.check_words.specs.Words.{checked_coded, has_places, has_room, CheckIdle, not_an_image, no_place_lem, past_a_limit, no_room, breaks, passes, CheckThrough, under_way_lem, idle, frames_after}
 use Rattle.check_words.proofs.Judged.{an_image_has_main}
 use Rattle.check_words.proofs.Crossing.{long, roomless}
+use Rattle.model.specs.declared.Counts.{Counts}
+use Rattle.check_rules.specs.declared.Rejected.{Rejected}
 
 pub record SameThrough (c d : Coded) (hs ks : List ℕ) (s t : Stores) (fs gs : List Frame) : Type 0 where
   pub coded : c ≡ d
@@ -40,7 +41,7 @@ module _ (image w a heights : List ℕ) (s : Stores) (fs : List Frame) where
 
   -- an answer of the check, as it crosses: b whether the record and the answer are long enough, f whether a frame has a place
   data Seen (b f : Bool) (c : Coded) (hs : List ℕ) (t : Stores) (gs : List Frame) : Type 0 where
-    crosses : {x : Checked} {left : List ℕ} {over : Stores} → CheckAs image (places_lent b) (stores_lent f) x left over → c ≡ checked_coded x w a
+    crosses : {x : Result Counts Rejected} {left : List ℕ} {over : Stores} → CheckAs image (places_lent b) (stores_lent f) x left over → c ≡ checked_coded x w a
         → hs ≡ (if b then left else heights) → t ≡ (if f then over else s) → gs ≡ frames_after c.number fs → Seen b f c hs t gs
 
   again : {A : Type 0} (b : Bool) (x y : A) → x ≡ (if b then (if b then x else y) else x)
@@ -48,7 +49,7 @@ module _ (image w a heights : List ℕ) (s : Stores) (fs : List Frame) where
   again false x y = refl
 
   -- a refusal of the check leaves what it was lent
-  refuses : {b f : Bool} {c : Coded} {gs : List Frame} {x : Checked} → CheckAs image (places_lent b) (stores_lent f) x (places_lent b) (stores_lent f) → c ≡ checked_coded x w a
+  refuses : {b f : Bool} {c : Coded} {gs : List Frame} {x : Result Counts Rejected} → CheckAs image (places_lent b) (stores_lent f) x (places_lent b) (stores_lent f) → c ≡ checked_coded x w a
       → gs ≡ frames_after c.number fs → Seen b f c heights s gs
   refuses {b} {f} h e g = crosses h e (again b heights []) (again f s (with_functions [] s)) g
 
@@ -106,7 +107,7 @@ module _ (image w a heights : List ℕ) (s : Stores) (fs : List Frame) where
   as_one : (b f : Bool) {c d : Coded} {hs ks : List ℕ} {t u : Stores} {gs rs : List Frame} → Seen b f c hs t gs → Seen b f d ks u rs → SameThrough c d hs ks t u gs rs
   as_one b f (crosses h₁ c₁ l₁ s₁ g₁) (crosses h₂ c₂ l₂ s₂ g₂) =
       let same = check_one image (places_lent b) (stores_lent f) h₁ h₂ in
-      let coded = c₁ ∙ ap (λ (x : Checked). checked_coded x w a) same.answer ∙ sym c₂ in
+      let coded = c₁ ∙ ap (λ (x : Result Counts Rejected). checked_coded x w a) same.answer ∙ sym c₂ in
       record {
         coded = coded;
         heights = l₁ ∙ ap (λ (x : List ℕ). if b then x else heights) same.heights ∙ sym l₂;

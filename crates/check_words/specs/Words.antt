@@ -1,8 +1,9 @@
 -- [check] The check of an image as an entry for a host in C: what it answers, in words, and what then stands in every slice that the host lent.
 -- "Refusals: 40 with the first broken rule in the order given and the lowest function that breaks it .., after 20, 17, 22 and 21"; what passes is loaded, and
 -- so "25 first"
-use Rattle.std.specs.Prelude.{◌≡◌, Bool, true, false, ◌&&◌, List, [], ◌∷◌, ℕ, eqb, leb, length, set, if◌then◌else◌}
+use Rattle.std.specs.Prelude.{◌≡◌, Bool, true, false, ◌&&◌, List, [], ◌∷◌, ℕ, eqb, leb, length, set, if◌then◌else◌, Err, Ok, Result}
 use Rattle.model.specs.declared.Frame.{Frame}
+use Rattle.model.specs.Answers.{refusal_number}
 use Rattle.model.specs.Basics.{written}
 use Rattle.model.specs.Values.{places}
 use Rattle.model.specs.Programs.{Program, within_limits}
@@ -12,11 +13,13 @@ use Rattle.model.specs.Loading.{laid, counts_for, room_for}
 use Rattle.model.specs.Runs.{root}
 use Rattle.model.specs.Machines.{fresh}
 use Rattle.check_rules.specs.declared.Rule.{Rule}
-use Rattle.check_rules.specs.declared.Checked.{Checked}
-use Rattle.check_rules.specs.declared.Checked.TheVariants as c
 use Rattle.check_rules.specs.Rules.{Passed, Broken, rule_number}
 use Rattle.check_rules.specs.Checks.{HeightsOf}
 use Rattle.embed_words.specs.Coding.{Coded, refused, vm_words, under_way}
+use Rattle.model.specs.declared.Counts.{Counts}
+use Rattle.check_rules.specs.declared.Rejected.{Rejected}
+use Rattle.model.specs.declared.Refusal.TheVariants as why
+use Rattle.check_rules.specs.declared.Rejected.TheVariants as no
 
 -- ---- an answer in words. w is the record's slice, a the answer's
 
@@ -29,11 +32,11 @@ abbrev pub made : Program → (w a : List ℕ) → Coded
 made p w a = record { number = 0; vm = written w 0 (vm_words (fresh (counts_for p))); answer = a }
 
 -- 20 tells the offset of the item, 40 the rule, 1 to 6, and the function
-unfoldable pub checked_coded : Checked → (w a : List ℕ) → Coded
-checked_coded (c.Passed k) w a = record { number = 0; vm = written w 0 (vm_words (fresh k)); answer = a }
-checked_coded (c.Broken i) w a = told 20 (i ∷ []) w a
-checked_coded (c.Refused n) w a = refused n w a
-checked_coded (c.Breaks q f) w a = told 40 (rule_number q ∷ f ∷ []) w a
+unfoldable pub checked_coded : Result Counts Rejected → (w a : List ℕ) → Coded
+checked_coded (Ok k) w a = record { number = 0; vm = written w 0 (vm_words (fresh k)); answer = a }
+checked_coded (Err (no.Refused (why.BrokenImage i))) w a = told 20 (i ∷ []) w a
+checked_coded (Err (no.Refused e)) w a = refused (refusal_number e) w a
+checked_coded (Err (no.Breaks q f)) w a = told 40 (rule_number q ∷ f ∷ []) w a
 
 -- ---- the entry
 

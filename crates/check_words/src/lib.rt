@@ -1,46 +1,38 @@
 // What the check of an image answers, as words in lent slices: what crosses to a host in C.
 #![tactic(auto)]
 
-ghost use Rattle.std.specs.Prelude.{◌≡◌, [], ◌∷◌, eqb, set, if◌then◌else◌};
+ghost use Rattle.std.specs.Prelude.{◌≡◌, [], ◌∷◌, eqb, if◌then◌else◌};
 ghost use Rattle.model.specs.Basics.{written};
 ghost use Rattle.check_rules.specs.Rules.{rule_number};
 ghost use Rattle.check_words.specs.Words.{checked_coded};
 
-use check_rules::{Checked, Rule, rule_number};
+use check_rules::{Rejected, Rule, rule_number};
 use embed_answers::tell_started;
-use model::Started;
+use embed_words::put;
+use model::Counts;
 use run_ends::fresh_vm;
 
-// x for word i; past the end nothing is written.
-fn put(s: &mut [u64], i: usize, x: usize)
-    ensures { s.new ≡ set s.old i x }
-{
-    if i < s.len() {
-        s[i] = x as u64;
-    }
-}
-
 // The broken rule and the function that breaks it.
+#[tactic(auto, unfolding(model::specs::Basics::written))]
 fn put_breach(q: Rule, f: usize, answer: &mut [u64])
     ensures { answer.new ≡ written answer.old 0 (rule_number q ∷ f ∷ []) }
 {
-    let rule = rule_number(q);
-    put(answer, 0, rule);
-    put(answer, 1, f);
+    put(answer, 0, rule_number(q) as u64);
+    put(answer, 1, f as u64);
 }
 
 // What the check answers: a fresh machine's record where it passed, or why it did not.
-pub fn tell_checked(checked: Checked, vm: &mut [u64], answer: &mut [u64]) -> u32
+#[tactic(auto, using(crate::proofs::Answers::refusal_told), unfolding(crate::specs::Words::checked_coded, embed_words::specs::Coding::started_coded))]
+pub fn tell_checked(checked: Result<Counts, Rejected>, vm: &mut [u64], answer: &mut [u64]) -> u32
     ensures { record { number = result; vm = vm.new; answer = answer.new } ≡ checked_coded checked vm.old answer.old }
 {
     match checked {
-        Checked::Passed(c) => {
+        Ok(c) => {
             let m = fresh_vm(c);
-            tell_started(Started::Done(m), vm, answer)
+            tell_started(Ok(m), vm, answer)
         }
-        Checked::Broken(i) => tell_started(Started::Broken(i), vm, answer),
-        Checked::Refused(n) => n as u32,
-        Checked::Breaks(q, f) => {
+        Err(Rejected::Refused(why)) => tell_started(Err(why), vm, answer),
+        Err(Rejected::Breaks(q, f)) => {
             put_breach(q, f, answer);
             40
         }

@@ -1,31 +1,17 @@
 // Reads a rule image from standard input, and prints whether it passes the check before it is installed.
 #![tactic(auto)]
 
-ghost use Rattle.streams.specs.Reads.{ReadAs};
-ghost use Rattle.streams.specs.Answers.{Answered, Shown};
+ghost use Rattle.streams.specs.Answers.{Shown};
 ghost use Rattle.checker.specs.Says.{Says};
 
+use check_report::check_image;
 use std::io;
-use streams::Input;
 
-// Prints what the check says of an image that was read; of one that could not be read, nothing.
-fn answer(rt: &(impl Print + Eprint), input: Input, image: &[u8], out: &mut [u8])
-    requires { ReadAs input image.now }
-    ensures { Answered Says input image.now out.old out.new }
-{
-    let Input::Bytes(n) = input else {
-        return;
-    };
-    let len = check_report::check_image(&image[..n], out);
-    streams::write_output(rt, &out[..len]);
-}
-
-// Reads an image and prints what the check says of it.
+// Reads an image and prints what the check says of it; of one that could not be read, nothing.
 fn show(rt: &(impl io::Input + Print + Eprint), image: &mut [u8], out: &mut [u8])
     ensures { Shown Says image.new out.old out.new }
 {
-    let input = streams::read_input(rt, image);
-    answer(rt, input, image, out);
+    streams::show(rt, image, out, check_image);
 }
 
 // One byte more than an image may have is read, so that a longer one is seen to be longer. A text has at most 16,992 bytes.

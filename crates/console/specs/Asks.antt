@@ -1,24 +1,20 @@
 -- What a line asks.
-use Rattle.std.specs.Prelude.{Bool, true, ◌||◌, List, ◌++◌, ℕ, min, eqb, length, get_or, take, drop, if◌then◌else◌}
+use Rattle.std.specs.Prelude.{Bool, true, ◌||◌, List, ◌++◌, ℕ, min, eqb, length, get_or, take, drop, if◌then◌else◌, Err, Ok, Result, Option, Some, None, option_map, option_and_then}
 use Rattle.model.specs.declared.Vm.{Vm}
-use Rattle.model.specs.declared.Shown.{Shown}
-use Rattle.model.specs.declared.Shown.TheVariants as w
-use Rattle.model.specs.declared.Headed.{Headed}
-use Rattle.model.specs.declared.Headed.TheVariants as h
 use Rattle.model.specs.Basics.{ascii}
 use Rattle.model.specs.Equality.{same_bytes}
-use Rattle.model.specs.declared.Told.TheVariants as t
 use Rattle.model.specs.Loading.{OutRes}
 use Rattle.model.specs.Readers.{block_header_of, element_of, text_bytes_of}
 use Rattle.console_frames.specs.declared.Call.{Call}
 use Rattle.console_frames.specs.declared.Call.TheVariants as c
 use Rattle.console.specs.declared.commands.Lent.{Lent}
-use Rattle.console.specs.declared.commands.Asked.{Asked}
-use Rattle.console.specs.declared.commands.Asked.TheVariants as q
 use Rattle.console.specs.declared.commands.Group.{Group}
 use Rattle.console.specs.declared.commands.Group.TheVariants as g
 use Rattle.console_emission.specs.declared.Kind.TheVariants as k
 use Rattle.console_script.specs.Words.{words_from, word_of, number_of, args_of, room_of, hex_of}
+use Rattle.model.specs.declared.Header.{Header}
+use Rattle.model.specs.declared.Refusal.{Refusal}
+use Rattle.model.specs.declared.Value.{Value}
 
 -- ---- calls over frames
 
@@ -26,34 +22,31 @@ use Rattle.console_script.specs.Words.{words_from, word_of, number_of, args_of, 
 unfoldable pub lent_whole : ℕ → Lent
 lent_whole n = record { image = n; copy = 4294967295; trace = 4294967295 }
 
-unfoldable pub ask_new : List ℕ → Asked
-ask_new line = if eqb (length (words_from line 1)) 0 then q.Frames c.New (lent_whole 0) else q.Other
+unfoldable pub ask_new : List ℕ → Option (Call × Lent)
+ask_new line = if eqb (length (words_from line 1)) 0 then Some (c.New, lent_whole 0) else None
 
 -- one number, 1 where the machine is to be strict, else 0
-unfoldable pub ask_strict : List ℕ → Asked
-ask_strict line =
-    if (args_of line 1 2 (record { a = 1; b = 0; c = 0; d = 0; e = 0 })).good
-    then q.Frames (c.Strict (eqb (args_of line 1 2 (record { a = 1; b = 0; c = 0; d = 0; e = 0 })).a 1)) (lent_whole 0) else q.Other
+unfoldable pub ask_strict : List ℕ → Option (Call × Lent)
+ask_strict line = option_map (λ a. (c.Strict (eqb a.a 1), lent_whole 0)) (args_of line 1 2 (record { a = 1; b = 0; c = 0; d = 0; e = 0 }))
 
-unfoldable pub ask_start : List ℕ → Asked
-ask_start line = if (room_of line 1).good then q.Frames c.Begin (record { image = 0; copy = (room_of line 1).is; trace = 4294967295 }) else q.Other
+unfoldable pub ask_start : List ℕ → Option (Call × Lent)
+ask_start line = option_map (λ n. (c.Begin, record { image = 0; copy = n; trace = 4294967295 })) (room_of line 1)
 
 -- word k says the room of the backtrace store
-unfoldable pub ask_traced : Call → List ℕ → ℕ → Asked
-ask_traced call line k = if (room_of line k).good then q.Frames call (record { image = 0; copy = 4294967295; trace = (room_of line k).is }) else q.Other
+unfoldable pub ask_traced : Call → List ℕ → ℕ → Option (Call × Lent)
+ask_traced call line k = option_map (λ n. (call, record { image = 0; copy = 4294967295; trace = n })) (room_of line k)
 
-unfoldable pub ask_continue : List ℕ → Asked
-ask_continue line = if (number_of 10 (word_of line 1)).good then ask_traced (c.Continue (number_of 10 (word_of line 1)).is) line 2 else q.Other
+unfoldable pub ask_continue : List ℕ → Option (Call × Lent)
+ask_continue line = option_and_then (λ n. ask_traced (c.Continue n) line 2) (number_of 10 (word_of line 1))
 
--- what is asked, and the space, which holds the bytes of an image
+-- the call over frames that is asked, and the space, which holds the bytes of an image
 pub record Heard : Type 0 where
-  pub asked : Asked
+  pub asked : Option (Call × Lent)
   pub space : List ℕ
 
 unfoldable pub ask_load : List ℕ → List ℕ → Heard
 ask_load line space = record {
-  asked = if (hex_of (words_from line 1) space).read.good then q.Frames c.Load
-      (lent_whole (hex_of (words_from line 1) space).read.size) else q.Other;
+  asked = option_map (λ n. (c.Load, lent_whole n)) (hex_of (words_from line 1) space).size;
   space = (hex_of (words_from line 1) space).out;
 }
 
@@ -66,7 +59,7 @@ ask_of line space =
     if same_bytes (word_of line 0) (ascii "abandon") then record { asked = ask_traced c.Abandon line 1; space = space } else (
     if same_bytes (word_of line 0) (ascii "image") then ask_load line space else (
     if same_bytes (word_of line 0) (ascii "strict") then record { asked = ask_strict line; space = space } else
-    record { asked = q.Other; space = space }))))))
+    record { asked = None; space = space }))))))
 
 -- ---- the commands that need no frames, in groups
 
@@ -107,18 +100,18 @@ group_of what =
 
 -- ---- readers of a value that was shown; its refusal where it was not
 
-unfoldable pub header_after : Vm → Shown → List ℕ → Headed
-header_after m (w.Value x) cells = block_header_of m x cells
-header_after m (w.Refused n) cells = h.Refused n
+unfoldable pub header_after : Vm → Result Value Refusal → List ℕ → Result Header Refusal
+header_after m (Ok x) cells = block_header_of m x cells
+header_after m (Err n) cells = Err n
 
-unfoldable pub element_after : Vm → Shown → ℕ → List ℕ → Shown
-element_after m (w.Value x) j cells = element_of m x j cells
-element_after m (w.Refused n) j cells = w.Refused n
+unfoldable pub element_after : Vm → Result Value Refusal → ℕ → List ℕ → Result Value Refusal
+element_after m (Ok x) j cells = element_of m x j cells
+element_after m (Err n) j cells = Err n
 
 -- into so much of a store as there is room for
-unfoldable pub text_after : Vm → Shown → ℕ → List ℕ → List ℕ → OutRes
-text_after m (w.Value x) room text out = record {
+unfoldable pub text_after : Vm → Result Value Refusal → ℕ → List ℕ → List ℕ → OutRes
+text_after m (Ok x) room text out = record {
   answer = (text_bytes_of m x text (take (min room (length out)) out)).answer;
   out = (text_bytes_of m x text (take (min room (length out)) out)).out ++ drop (min room (length out)) out;
 }
-text_after m (w.Refused n) room text out = record { answer = t.Refused n; out = out }
+text_after m (Err n) room text out = record { answer = Err n; out = out }

@@ -1,24 +1,18 @@
 -- What is said of a list or struct, and which machine there is behind an answer: the one that it tells, or the one that was.
-use Rattle.std.specs.Prelude.{false, List, ℕ, ◌/◌, ltb, length, if◌then◌else◌}
+use Rattle.std.specs.Prelude.{false, List, ℕ, ◌/◌, ltb, length, if◌then◌else◌, Err, None, Ok, Option, Result, Some, unwrap_or}
 use Rattle.model.specs.declared.Header.{Header}
 use Rattle.model.specs.declared.Tally.{Tally}
 use Rattle.model.specs.declared.Vm.{Vm}
-use Rattle.model.specs.declared.Emitted.{Emitted}
-use Rattle.model.specs.declared.Emitted.TheVariants as e
-use Rattle.model.specs.declared.Started.{Started}
-use Rattle.model.specs.declared.Started.TheVariants as s
-use Rattle.model.specs.declared.RunResult.{RunResult}
-use Rattle.model.specs.declared.RunResult.TheVariants as x
-use Rattle.model.specs.declared.Changed as setting
-use Rattle.model.specs.declared.Changed.TheVariants as st
-use Rattle.model.specs.declared.Last.TheVariants.{Nothing}
+use Rattle.model.specs.declared.Halt.TheVariants as x
 use Rattle.model.specs.Values.{payload_at}
 use Rattle.model.specs.Heap.{header_of}
 use Rattle.model.specs.Machines.{no_run}
 use Rattle.console_frames.specs.declared.Answer.{Answer}
 use Rattle.console_frames.specs.declared.Answer.TheVariants as a
-use Rattle.console_damage.specs.declared.Changed.{Changed}
 use Rattle.console_damage.specs.Damage.{with_program}
+use Rattle.model.specs.declared.Counts.{Counts}
+use Rattle.model.specs.declared.Halt.{Halt}
+use Rattle.model.specs.declared.Refusal.{Refusal}
 
 -- the header at cell p, of no elements where there is no such cell
 unfoldable pub header_in : List ℕ → ℕ → Header
@@ -26,32 +20,33 @@ header_in cells p = if ltb p (length cells / 2) then header_of (payload_at cells
 
 -- before any is made: nothing is in good order yet
 unfoldable pub no_machine : Vm
-no_machine = record { program = record { constants = 0; structs = 0; functions = 0; text = 0; current = 0 }; stack = 0; frames = 0; cells = 0; last = Nothing; run = no_run; strict = false }
+no_machine = record { program = record { constants = 0; structs = 0; functions = 0; text = 0; current = 0 }; stack = 0; frames = 0; cells = 0; last = None; run = no_run; strict = false }
 
-unfoldable pub after_emitted : Vm → Emitted → Vm
-after_emitted m (e.Done c n) = with_program m c
-after_emitted m (e.Refused n) = m
+-- none: the line was not known
+unfoldable pub after_emitted : Vm → Option (Result (Counts × ℕ) Refusal) → Vm
+after_emitted m None = m
+after_emitted m (Some (Ok (c, n))) = with_program m c
+after_emitted m (Some (Err e)) = m
 
-unfoldable pub after_started : Vm → Started → Vm
-after_started m (s.Done made) = made
-after_started m (s.Broken at) = m
-after_started m (s.Refused n) = m
+unfoldable pub after_started : Vm → Result Vm Refusal → Vm
+after_started m (Ok made) = made
+after_started m (Err e) = m
 
 -- what the run that is under way has done so far
 unfoldable pub so_far : Vm → Tally
 so_far m = record { spent = m.run.spent; returns = m.run.returns }
 
-unfoldable pub after_run : Vm → RunResult → Vm
-after_run m (x.Value left v spent) = left
-after_run m (x.Continue left spent) = left
-after_run m (x.Fault left n spent entries) = left
-after_run m (x.Paused left) = left
-after_run m (x.Refused n) = m
+unfoldable pub after_run : Vm → Result Halt Refusal → Vm
+after_run m (Ok (x.Value left v spent)) = left
+after_run m (Ok (x.Continue left spent)) = left
+after_run m (Ok (x.Fault left n spent entries)) = left
+after_run m (Ok (x.Paused left)) = left
+after_run m (Err e) = m
 
 -- with the setting that was asked, or as it was
-unfoldable pub after_set : Vm → setting.Changed → Vm
-after_set m (st.Done set) = set
-after_set m (st.Refused n) = m
+unfoldable pub after_set : Vm → Result Vm Refusal → Vm
+after_set m (Ok set) = set
+after_set m (Err e) = m
 
 -- a backtrace leaves the machine as it was
 unfoldable pub after_answer : Vm → Answer → Vm
@@ -61,5 +56,5 @@ after_answer m (a.Traced t) = m
 after_answer m (a.Set x) = after_set m x
 
 -- damage that was understood
-unfoldable pub after_damage : Vm → Changed → Vm
-after_damage m d = if d.good then d.m else m
+unfoldable pub after_damage : Vm → Option Vm → Vm
+after_damage m d = unwrap_or d m

@@ -1,17 +1,16 @@
 -- What a line does to the machine and to all stores.
-use Rattle.std.specs.Prelude.{◌≡◌, true, false, List, ℕ}
+use Rattle.std.specs.Prelude.{◌≡◌, List, ℕ, Option, Some, None}
 use Rattle.model.specs.declared.Vm.{Vm}
 use Rattle.model.specs.Stores.{Stores}
-use Rattle.model.specs.Emission.{Res}
 use Rattle.console_script.specs.declared.Line.{Line}
-use Rattle.console.specs.declared.commands.Asked.{Asked}
-use Rattle.console.specs.declared.commands.Asked.TheVariants as q
+use Rattle.console.specs.declared.commands.Lent.{Lent}
+use Rattle.console_frames.specs.declared.Call.{Call}
 use Rattle.console.specs.declared.commands.Group.{Group}
 use Rattle.console.specs.declared.commands.Group.TheVariants as g
 use Rattle.console_script.specs.Words.{word_of, cut_of, blank, line_of, next_line}
 use Rattle.console.specs.Asks.{ask_of, group_of}
 use Rattle.console.specs.Said.{after_emitted, after_damage}
-use Rattle.console_emission.specs.Emits.{emit_asked}
+use Rattle.console_emission.specs.Emits.{Emitted, emit_asked}
 use Rattle.console_damage.specs.Damage.{count_asked, result_asked, frame_asked, words_asked, bytes_asked, places_asked}
 use Rattle.console_frames.specs.Calls.{Held}
 use Rattle.console.specs.Lendings.{OverFrames}
@@ -24,7 +23,7 @@ pub record Host : Type 0 where
 -- ---- a line that needs no frames
 
 -- w says what was emitted
-unfoldable pub emitted : (m : Vm) (s : Held) (w : Res) → Host
+unfoldable pub emitted : (m : Vm) (s : Held) (w : Emitted) → Host
 emitted m s w = record {
   m = after_emitted m w.answer;
   held = record { program = w.stores; stack = s.stack; cells = s.cells; copy = s.copy; trace = s.trace; frames = s.frames };
@@ -77,16 +76,16 @@ obeyed line m s = obeyed_by (group_of (word_of line 0)) line m s
 -- ---- any line
 
 -- by what it asks; the space holds an image's bytes
-unfoldable pub TurnedBy : (asked : Asked) (space line : List ℕ) (m : Vm) (s : Held) (r : Vm) (s' : Held) → Type 0
-TurnedBy (q.Frames call lent) space line m s r s' = OverFrames m call (cut_of space 0 lent.image) lent s r s'
-TurnedBy q.Other space line m s r s' = record { m = r; held = s' } ≡ obeyed line m s
+unfoldable pub TurnedBy : (asked : Option (Call × Lent)) (space line : List ℕ) (m : Vm) (s : Held) (r : Vm) (s' : Held) → Type 0
+TurnedBy (Some (call, lent)) space line m s r s' = OverFrames m call (cut_of space 0 lent.image) lent s r s'
+TurnedBy None space line m s r s' = record { m = r; held = s' } ≡ obeyed line m s
 
 -- r is the machine behind the line, and s' what the stores then hold
 unfoldable pub Turned : (line : List ℕ) (m : Vm) (s : Held) (r : Vm) (s' : Held) → Type 0
 Turned line m s r s' = TurnedBy (ask_of line blank).asked (ask_of line blank).space line m s r s'
 
 -- the lines from l on, one behind the other; s' is what the stores hold behind the last
-pub data Played (script : List ℕ) : Line → Vm → Held → Held → Type 0 where
-  over : {l : Line} {m : Vm} {s : Held} → l.on ≡ false → Played script l m s s
-  line : {l : Line} {m : Vm} {s : Held} {r : Vm} {s₁ s' : Held} → l.on ≡ true → Turned (line_of script l) m s r s₁
-      → Played script (next_line script l) r s₁ s' → Played script l m s s'
+pub data Played (script : List ℕ) : Option Line → Vm → Held → Held → Type 0 where
+  over : {m : Vm} {s : Held} → Played script None m s s
+  line : {l : Line} {m : Vm} {s : Held} {r : Vm} {s₁ s' : Held} → Turned (line_of script l) m s r s₁
+      → Played script (next_line script l) r s₁ s' → Played script (Some l) m s s'

@@ -4,17 +4,18 @@ ghost use Rattle.console.specs.Asks.{lent_whole, ask_new, ask_strict, ask_start,
 ghost use Rattle.console.specs.Said.{no_machine, after_damage};
 ghost use Rattle.console_damage.specs.Sums.{sum_of};
 ghost use Rattle.console_damage.specs.Damage.{frame_args, frame_asked};
-ghost use Rattle.console_frames.specs.Calls.{held};
+ghost use Rattle.console_frames.specs.Calls.{held_by};
 ghost use Rattle.console.specs.Turns.{obeyed};
 
 use crate::{reading, say};
+use console_damage::{mixed_bytes, mixed_counts, mixed_places, mixed_words};
 use console_emission::Kind;
 use console_frames::Call;
 use console_script::{Args, Most, stores, word};
 use emission_code::current_offset;
 use emission_functions::get_function_idx;
 use layout::reads::same_bytes;
-use model::{Counts, Frame, Last, Run, Told, Vm};
+use model::{Counts, Frame, Run, Vm};
 
 // How much a call over frames is lent: bytes of the space, which are its image, and places of the copy store and of the backtrace store.
 #[derive(Clone, Copy)]
@@ -24,14 +25,8 @@ pub struct Lent {
     pub trace: usize,
 }
 
-// What a line asks: a call over frames, or something else.
-#[derive(Clone, Copy)]
-pub enum Asked {
-    Frames(Call, Lent),
-    Other,
-}
-
 // A call that is lent the copy store and the backtrace store whole.
+#[tactic(auto, unfolding(crate::specs::Asks::lent_whole))]
 fn lent_whole(image: usize) -> Lent
     ensures { result ≡ lent_whole image }
 {
@@ -44,18 +39,19 @@ fn lent_whole(image: usize) -> Lent
 }
 
 // `new`.
-fn ask_new(line: &[u8]) -> Asked
+#[tactic(auto, unfolding(crate::specs::Asks::ask_new))]
+fn ask_new(line: &[u8]) -> Option<(Call, Lent)>
     ensures { result ≡ ask_new line.now }
 {
-    let rest = console_script::words_from(line, 1);
-    if rest.len() == 0 {
-        return Asked::Frames(Call::New, lent_whole(0));
+    if !console_script::words_from(line, 1).is_empty() {
+        return None;
     }
-    Asked::Other
+    Some((Call::New, lent_whole(0)))
 }
 
 // `strict 0`, `strict 1`.
-fn ask_strict(line: &[u8]) -> Asked
+#[tactic(auto, unfolding(crate::specs::Asks::ask_strict))]
+fn ask_strict(line: &[u8]) -> Option<(Call, Lent)>
     ensures { result ≡ ask_strict line.now }
 {
     let most = Most {
@@ -65,70 +61,56 @@ fn ask_strict(line: &[u8]) -> Asked
         d: 0,
         e: 0,
     };
-    let args = console_script::read_args(line, 1, 2, most);
-    if args.good {
-        let strict = args.a == 1;
-        return Asked::Frames(Call::Strict(strict), lent_whole(0));
-    }
-    Asked::Other
+    let args = console_script::read_args(line, 1, 2, most)?;
+    Some((Call::Strict(args.a == 1), lent_whole(0)))
 }
 
 // `start`, `start ROOM`.
-fn ask_start(line: &[u8]) -> Asked
+#[tactic(auto, unfolding(crate::specs::Asks::ask_start))]
+fn ask_start(line: &[u8]) -> Option<(Call, Lent)>
     ensures { result ≡ ask_start line.now }
 {
-    let room = console_script::read_room(line, 1);
-    if room.good {
-        let lent = Lent {
-            image: 0,
-            copy: room.is as usize,
-            trace: console_script::whole(),
-        };
-        return Asked::Frames(Call::Begin, lent);
-    }
-    Asked::Other
+    let lent = Lent {
+        image: 0,
+        copy: console_script::read_room(line, 1)?,
+        trace: console_script::whole(),
+    };
+    Some((Call::Begin, lent))
 }
 
 // A call that is lent so much of the backtrace store as word k says: `trace`, `trace ROOM`, `abandon`, `abandon ROOM`.
-fn ask_traced(call: Call, line: &[u8], k: usize) -> Asked
+#[tactic(auto, unfolding(crate::specs::Asks::ask_traced))]
+fn ask_traced(call: Call, line: &[u8], k: usize) -> Option<(Call, Lent)>
     ensures { result ≡ ask_traced call line.now k }
 {
-    let room = console_script::read_room(line, k);
-    if room.good {
-        let lent = Lent {
-            image: 0,
-            copy: console_script::whole(),
-            trace: room.is as usize,
-        };
-        return Asked::Frames(call, lent);
-    }
-    Asked::Other
+    let lent = Lent {
+        image: 0,
+        copy: console_script::whole(),
+        trace: console_script::read_room(line, k)?,
+    };
+    Some((call, lent))
 }
 
 // `continue UNITS`, `continue UNITS ROOM`.
-fn ask_continue(line: &[u8]) -> Asked
+#[tactic(auto, unfolding(crate::specs::Asks::ask_continue))]
+fn ask_continue(line: &[u8]) -> Option<(Call, Lent)>
     ensures { result ≡ ask_continue line.now }
 {
-    let units = console_script::decimal(word(line, 1));
-    if units.good {
-        return ask_traced(Call::Continue(units.is), line, 2);
-    }
-    Asked::Other
+    let units = console_script::decimal(word(line, 1))?;
+    ask_traced(Call::Continue(units), line, 2)
 }
 
 // `image HEX`. Its bytes go into space.
-fn ask_load(line: &[u8], space: &mut stores::Space) -> Asked
+#[tactic(auto, unfolding(crate::specs::Asks::ask_load))]
+fn ask_load(line: &[u8], space: &mut stores::Space) -> Option<(Call, Lent)>
     ensures { record { asked = result; space = space.new } ≡ ask_load line.now space.old }
 {
-    let b = console_script::read_bytes(console_script::words_from(line, 1), space);
-    if b.good {
-        return Asked::Frames(Call::Load, lent_whole(b.size));
-    }
-    Asked::Other
+    let size = console_script::read_bytes(console_script::words_from(line, 1), space)?;
+    Some((Call::Load, lent_whole(size)))
 }
 
-// What a line asks.
-pub fn ask(line: &[u8], space: &mut stores::Space) -> Asked
+// The call over frames that a line asks; none where it asks something else.
+pub fn ask(line: &[u8], space: &mut stores::Space) -> Option<(Call, Lent)>
     ensures { record { asked = result; space = space.new } ≡ ask_of line.now space.old }
 {
     let what = word(line, 0);
@@ -153,10 +135,11 @@ pub fn ask(line: &[u8], space: &mut stores::Space) -> Asked
     if same_bytes(what, b"strict") {
         return ask_strict(line);
     }
-    Asked::Other
+    None
 }
 
-// The commands that need no frames, in groups.
+// The commands that need no frames, in groups. An enum, and no table of closures: which command it is comes with the line, and each has its own rule, which
+// the match names.
 #[derive(Clone, Copy)]
 pub enum Group {
     Emit(Kind),
@@ -171,6 +154,7 @@ pub enum Group {
     Unknown,
 }
 
+// The words of each group stand in a function of its own, as they stand in a definition of its own: one that takes the words would be no plainer.
 fn is_code(what: &[u8]) -> bool
     ensures { result ≡ is_code what.now }
 {
@@ -275,143 +259,74 @@ fn echo(rt: &impl Print, line: &[u8]) {
 }
 
 // `save`: the image, in hex, from so much room.
-fn save(
-    rt: &impl Print,
-    c: Counts,
-    room: usize,
-    number: u64,
-    constants: &[u64],
-    structs: &[u64],
-    functions: &[u64],
-    text: &[u8],
-    main: &[u8],
-    main_places: &[u32],
-    other: &[u8],
-    other_places: &[u32],
-) {
+fn save(rt: &impl Print, c: Counts, room: usize, program: &stores::Program) {
     let mut space = [0u8; 16384];
     let n = console_script::at_most(room, space.len());
-    let told = image_save::save(
-        c,
-        constants,
-        structs,
-        functions,
-        text,
-        main,
-        main_places,
-        other,
-        other_places,
-        &mut space[..n],
-    );
-    match told {
-        Told::Number(size) => {
+    match image_save::save(c, &program.lent(), &mut space[..n]) {
+        Ok(size) => {
             say::say_count(rt, b"image ", size);
             say::say(rt, b" ");
             say::say_bytes(rt, console_script::front(&space, size));
         }
-        Told::Refused(no) => say::say_refused(rt, no, number),
+        Err(e) => say::say_refused(rt, e),
     }
 }
 
 // `list`: the listing, from so much room.
-fn list<'a>(
-    rt: &impl Print,
-    c: Counts,
-    room: usize,
-    number: u64,
-    functions: &[u64],
-    text: &[u8],
-    main: &'a [u8],
-    other: &'a [u8],
-) {
+fn list(rt: &impl Print, c: Counts, room: usize, p: &stores::Program) {
     let mut space = [0u8; 16384];
     let n = console_script::at_most(room, space.len());
-    let told = listing::disassemble(c, functions, text, main, other, &mut space[..n]);
+    let told = listing::disassemble(c, &p.functions, &p.text, &p.main, &p.other, &mut space[..n]);
     match told {
-        Told::Number(size) => say::say(rt, console_script::front(&space, size)),
-        Told::Refused(no) => say::say_refused(rt, no, number),
+        Ok(size) => say::say(rt, console_script::front(&space, size)),
+        Err(e) => say::say_refused(rt, e),
     }
 }
 
 // `find HEX`.
-fn find(rt: &impl Print, c: Counts, line: &[u8], number: u64, functions: &[u64], text: &[u8]) {
+fn find(rt: &impl Print, c: Counts, line: &[u8], number: u64, p: &stores::Program) {
     let mut space = [0u8; 16384];
-    let b = console_script::read_bytes(console_script::words_from(line, 1), &mut space);
-    if b.good {
-        let name = console_script::front(&space, b.size);
-        say::say_told(rt, get_function_idx(c, name, functions, text), number);
+    let read = console_script::read_bytes(console_script::words_from(line, 1), &mut space);
+    let Some(size) = read else {
+        say::say_unknown(rt, number);
         return;
-    }
-    say::say_unknown(rt, number);
+    };
+    let name = console_script::front(&space, size);
+    say::say_told(rt, get_function_idx(c, name, &p.functions, &p.text));
 }
 
 // `offset`, `find HEX`, `save`, `list`, the last two with the ROOM of the space that they are lent.
-fn look<'a>(
-    rt: &impl Print,
-    c: Counts,
-    line: &[u8],
-    number: u64,
-    constants: &[u64],
-    structs: &[u64],
-    functions: &[u64],
-    text: &[u8],
-    main: &'a [u8],
-    main_places: &[u32],
-    other: &'a [u8],
-    other_places: &[u32],
-) {
+fn look(rt: &impl Print, c: Counts, line: &[u8], number: u64, p: &stores::Program) {
     let what = word(line, 0);
     if same_bytes(what, b"offset") {
-        say::say_told(rt, current_offset(c, functions), number);
+        say::say_told(rt, current_offset(c, &p.functions));
         return;
     }
     if same_bytes(what, b"find") {
-        find(rt, c, line, number, functions, text);
+        find(rt, c, line, number, p);
         return;
     }
-    let room = console_script::read_room(line, 1);
-    if !room.good {
+    let Some(room) = console_script::read_room(line, 1) else {
         say::say_unknown(rt, number);
         return;
-    }
+    };
     if same_bytes(what, b"save") {
-        save(
-            rt,
-            c,
-            room.is as usize,
-            number,
-            constants,
-            structs,
-            functions,
-            text,
-            main,
-            main_places,
-            other,
-            other_places,
-        );
+        save(rt, c, room, p);
         return;
     }
-    list(
-        rt,
-        c,
-        room.is as usize,
-        number,
-        functions,
-        text,
-        main,
-        other,
-    );
+    list(rt, c, room, p);
 }
 
 // Damage is not answered, unless it is not understood.
-fn damaged(rt: &impl Print, m: Vm, d: console_damage::Changed, number: u64) -> Vm
+#[tactic(auto, unfolding(crate::specs::Said::after_damage))]
+fn damaged(rt: &impl Print, m: Vm, d: Option<Vm>, number: u64) -> Vm
     ensures { result ≡ after_damage m d }
 {
-    if d.good {
-        return d.m;
-    }
-    say::say_unknown(rt, number);
-    m
+    let Some(damaged) = d else {
+        say::say_unknown(rt, number);
+        return m;
+    };
+    damaged
 }
 
 fn poked(rt: &impl Print, good: bool, number: u64) {
@@ -421,7 +336,7 @@ fn poked(rt: &impl Print, good: bool, number: u64) {
 }
 
 // The numbers of a frame's line.
-fn frame_args(line: &[u8], end: usize) -> Args
+fn frame_args(line: &[u8], end: usize) -> Option<Args>
     ensures { result ≡ frame_args line.now end }
 {
     let most = 0xFFFF_FFFF_FFFF;
@@ -440,163 +355,57 @@ fn frame_args(line: &[u8], end: usize) -> Args
 }
 
 // `frame I` shows a frame, `frame I FUNCTION POSITION BASE ENTERED` puts one.
+#[tactic(auto, unfolding(console_damage::specs::Damage::frame_asked))]
 fn frame(rt: &impl Print, line: &[u8], number: u64, frames: &mut [u64])
     ensures { frames.new ≡ frame_asked line.now frames.old }
 {
-    let one = frame_args(line, 2);
-    if one.good {
+    if let Some(one) = frame_args(line, 2) {
         say::say_frame(rt, console_damage::frame_in(frames, one.a as usize));
         return;
     }
-    let all = frame_args(line, 6);
-    if all.good {
-        let f = Frame {
-            function: all.b as usize,
-            position: all.c as usize,
-            base: all.d as usize,
-            entered: all.e,
-        };
-        console_damage::put_frame(frames, all.a as usize, f);
+    let Some(all) = frame_args(line, 6) else {
+        say::say_unknown(rt, number);
         return;
-    }
-    say::say_unknown(rt, number);
+    };
+    let f = Frame {
+        function: all.b as usize,
+        position: all.c as usize,
+        base: all.d as usize,
+        entered: all.e,
+    };
+    console_damage::put_frame(frames, all.a as usize, f);
 }
 
 // The checksum of the counts, the last result, the run that is under way and all stores.
-fn sum(
-    m: Vm,
-    constants: &[u64],
-    structs: &[u64],
-    functions: &[u64],
-    text: &[u8],
-    main: &[u8],
-    main_places: &[u32],
-    other: &[u8],
-    other_places: &[u32],
-    stack: &[u64],
-    cells: &[u64],
-    copy: &[u64],
-    trace: &[u64],
-    frames: &[u64],
-) -> u64
-    ensures { result ≡ sum_of m constants.now structs.now functions.now text.now main.now main_places.now other.now other_places.now stack.now cells.now copy.now trace.now frames.now }
+fn sum(m: Vm, s: &stores::Stores) -> u64
+    ensures { result ≡ sum_of m s.now.program.constants s.now.program.structs s.now.program.functions s.now.program.text s.now.program.main s.now.program.main_places s.now.program.other s.now.program.other_places s.now.stack s.now.cells s.now.copy s.now.trace s.now.frames }
 {
-    let a = console_damage::mixed_counts(0, m);
-    let b = console_damage::mixed_words(a, constants);
-    let c = console_damage::mixed_words(b, structs);
-    let d = console_damage::mixed_words(c, functions);
-    let e = console_damage::mixed_bytes(d, text);
-    let f = console_damage::mixed_bytes(e, main);
-    let g = console_damage::mixed_places(f, main_places);
-    let h = console_damage::mixed_bytes(g, other);
-    let i = console_damage::mixed_places(h, other_places);
-    let j = console_damage::mixed_words(i, stack);
-    let k = console_damage::mixed_words(j, cells);
-    let n = console_damage::mixed_words(k, copy);
-    let o = console_damage::mixed_words(n, trace);
-    console_damage::mixed_words(o, frames)
-}
-
-// What a line tells of a machine and its stores.
-fn tell<'a>(
-    rt: &impl Print,
-    m: Vm,
-    group: Group,
-    line: &[u8],
-    number: u64,
-    constants: &stores::Constants,
-    structs: &stores::Structs,
-    functions: &stores::Functions,
-    text: &stores::Text,
-    main: &'a stores::Code,
-    main_places: &stores::Places,
-    other: &'a stores::Code,
-    other_places: &stores::Places,
-    stack: &stores::Stack,
-    cells: &stores::Cells,
-    copy: &stores::Stack,
-    trace: &stores::Trace,
-    frames: &stores::Frames,
-) {
-    match group {
-        Group::Look => look(
-            rt,
-            m.program,
-            line,
-            number,
-            constants,
-            structs,
-            functions,
-            text,
-            main,
-            main_places,
-            other,
-            other_places,
-        ),
-        Group::Read => reading::read(rt, m, line, number, text, stack, cells),
-        Group::Sum => {
-            let h = sum(
-                m,
-                constants,
-                structs,
-                functions,
-                text,
-                main,
-                main_places,
-                other,
-                other_places,
-                stack,
-                cells,
-                copy,
-                trace,
-                frames,
-            );
-            say::say_sum(rt, h);
-        }
-        Group::Said => echo(rt, line),
-        _ => say::say_unknown(rt, number),
-    }
+    let p = &s.program;
+    let a = mixed_counts(0, m);
+    let b = mixed_words(a, &p.constants);
+    let c = mixed_words(b, &p.structs);
+    let d = mixed_words(c, &p.functions);
+    let e = mixed_bytes(d, &p.text);
+    let f = mixed_bytes(e, &p.main);
+    let g = mixed_places(f, &p.main_places);
+    let h = mixed_bytes(g, &p.other);
+    let i = mixed_places(h, &p.other_places);
+    let j = mixed_words(i, &s.stack);
+    let k = mixed_words(j, &s.cells);
+    let n = mixed_words(k, &s.copy);
+    let o = mixed_words(n, &s.trace);
+    mixed_words(o, &s.frames)
 }
 
 // A line that needs no frames; the machine as it then is.
-pub fn obey(
-    rt: &impl Print,
-    m: Vm,
-    line: &[u8],
-    number: u64,
-    constants: &mut stores::Constants,
-    structs: &mut stores::Structs,
-    functions: &mut stores::Functions,
-    text: &mut stores::Text,
-    main: &mut stores::Code,
-    main_places: &mut stores::Places,
-    other: &mut stores::Code,
-    other_places: &mut stores::Places,
-    stack: &mut stores::Stack,
-    cells: &mut stores::Cells,
-    copy: &stores::Stack,
-    trace: &stores::Trace,
-    frames: &mut stores::Frames,
-) -> Vm
-    ensures { record { m = result; held = held constants.new structs.new functions.new text.new main.new main_places.new other.new other_places.new stack.new cells.new copy.now trace.now frames.new } ≡ obeyed line.now m (held constants.old structs.old functions.old text.old main.old main_places.old other.old other_places.old stack.old cells.old copy.now trace.now frames.old) }
+#[tactic(auto, unfolding(crate::specs::Turns::obeyed, crate::specs::Turns::obeyed_by, crate::specs::Turns::with_frames))]
+pub fn obey(rt: &impl Print, m: Vm, line: &[u8], number: u64, stores: &mut stores::Stores) -> Vm
+    ensures { record { m = result; held = held_by stores.new } ≡ obeyed line.now m (held_by stores.old) }
 {
     let group = group_of(word(line, 0));
     match group {
         Group::Emit(kind) => {
-            let e = console_emission::emit(
-                m.run.on,
-                m.program,
-                kind,
-                line,
-                constants,
-                structs,
-                functions,
-                text,
-                main,
-                main_places,
-                other,
-                other_places,
-            );
+            let e = console_emission::emit(m.run.on, m.program, kind, line, &mut stores.program);
             return say::say_emitted(rt, m, e, number);
         }
         Group::Count => return damaged(rt, m, console_damage::with_count(m, line), number),
@@ -604,48 +413,28 @@ pub fn obey(
         Group::Poke => {
             let good = console_damage::poke(
                 line,
-                constants,
-                structs,
-                functions,
-                text,
-                main,
-                main_places,
-                other,
-                other_places,
-                stack,
-                cells,
+                &mut stores.program,
+                &mut stores.stack,
+                &mut stores.cells,
             );
             poked(rt, good, number);
-            return m;
         }
-        Group::Frame => {
-            frame(rt, line, number, frames);
-            return m;
-        }
-        _ => {
-            tell(
-                rt,
-                m,
-                group,
-                line,
-                number,
-                constants,
-                structs,
-                functions,
-                text,
-                main,
-                main_places,
-                other,
-                other_places,
-                stack,
-                cells,
-                copy,
-                trace,
-                frames,
-            );
-            return m;
-        }
+        Group::Frame => frame(rt, line, number, &mut stores.frames),
+        Group::Look => look(rt, m.program, line, number, &stores.program),
+        Group::Read => reading::read(
+            rt,
+            m,
+            line,
+            number,
+            &stores.program.text,
+            &stores.stack,
+            &stores.cells,
+        ),
+        Group::Sum => say::say_sum(rt, sum(m, stores)),
+        Group::Said => echo(rt, line),
+        Group::Unknown => say::say_unknown(rt, number),
     }
+    m
 }
 
 // A machine before any is made: nothing is in good order yet.
@@ -672,7 +461,7 @@ pub fn no_machine() -> Vm
         stack: 0,
         frames: 0,
         cells: 0,
-        last: Last::Nothing,
+        last: None,
         run,
         strict: false,
     }

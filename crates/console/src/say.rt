@@ -2,11 +2,10 @@
 ghost use Rattle.std.specs.Prelude.{◌≡◌};
 ghost use Rattle.console.specs.Said.{header_in, so_far, after_run, after_started, after_emitted, after_set, after_answer};
 
+use console_emission::Emitted;
 use console_frames::Answer;
 use console_script::{front, stores};
-use model::{
-    Changed, Emitted, Frame, Headed, Header, RunResult, Shown, Started, Tally, Told, Value, Vm,
-};
+use model::{Frame, Halt, Header, Refusal, Tally, Value, Vm};
 use value::words;
 
 pub fn say(rt: &impl Print, text: &[u8]) {
@@ -29,6 +28,7 @@ fn say_digit(rt: &impl Print, d: u64) {
 // The digits of w from that of unit, a power of 16, on.
 fn say_hex(rt: &impl Print, w: u64, unit: u64) {
     let mut u = unit;
+    // From a high digit to the lowest, by sixteenths, so this is no `for`.
     while u > 0 {
         say_digit(rt, w / u);
         u /= 16;
@@ -45,10 +45,8 @@ pub fn say_byte(rt: &impl Print, b: u8) {
 
 // Bytes in hex, and the end of the line.
 pub fn say_bytes(rt: &impl Print, s: &[u8]) {
-    let mut i = 0;
-    while i < s.len() {
-        say_byte(rt, s[i]);
-        i += 1;
+    for b in s {
+        say_byte(rt, *b);
     }
     say(rt, b"\n");
 }
@@ -66,18 +64,15 @@ pub fn say_unknown(rt: &impl Print, number: u64) {
     say(rt, b"\n");
 }
 
-// A refusal; 0, which is no number of the rules, is a line that is not understood.
-pub fn say_refused(rt: &impl Print, n: u8, number: u64) {
-    if n == 0 {
-        say_unknown(rt, number);
-        return;
-    }
+// A refusal.
+pub fn say_refused(rt: &impl Print, e: Refusal) {
     say(rt, b"refused ");
-    say_number(rt, n as u64);
+    say_number(rt, e.number() as u64);
     say(rt, b"\n");
 }
 
 // The header at cell p; one of no elements where there is no such cell.
+#[tactic(auto, unfolding(crate::specs::Said::header_in))]
 fn header_at(cells: &[u64], p: usize) -> Header
     ensures { result ≡ header_in cells.now p }
 {
@@ -141,14 +136,13 @@ fn say_entry(rt: &impl Print, i: usize, trace: &[u64]) {
 }
 
 fn say_entries(rt: &impl Print, n: usize, trace: &[u64]) {
-    let mut i = 0;
-    while i < n {
+    for i in 0..n {
         say_entry(rt, i, trace);
-        i += 1;
     }
 }
 
 // What a run that is under way has done so far.
+#[tactic(auto, unfolding(crate::specs::Said::so_far))]
 fn so_far(m: Vm) -> Tally
     ensures { result ≡ so_far m }
 {
@@ -160,149 +154,157 @@ fn so_far(m: Vm) -> Tally
 }
 
 // What a call of a run answers; the machine is then as it says, or as it was.
-fn say_run(rt: &impl Print, m: Vm, r: RunResult, cells: &[u64], trace: &[u64], number: u64) -> Vm
+#[tactic(auto, unfolding(crate::specs::Said::after_run))]
+fn say_run(rt: &impl Print, m: Vm, r: Result<Halt, Refusal>, cells: &[u64], trace: &[u64]) -> Vm
     ensures { result ≡ after_run m r }
 {
     match r {
-        RunResult::Value(left, v, did) => {
+        Ok(Halt::Value(left, v, did)) => {
             say(rt, b"value ");
             say_value(rt, v, cells);
             say_left(rt, left, did);
             left
         }
-        RunResult::Continue(left, did) => {
+        Ok(Halt::Continue(left, did)) => {
             say(rt, b"continue");
             say_left(rt, left, did);
             left
         }
-        RunResult::Fault(left, n, did, entries) => {
+        Ok(Halt::Fault(left, n, did, entries)) => {
             say(rt, b"fault ");
             say_number(rt, n as u64);
             say_left(rt, left, did);
             say_entries(rt, entries, trace);
             left
         }
-        RunResult::Paused(left) => {
+        Ok(Halt::Paused(left)) => {
             say(rt, b"paused");
             say_left(rt, left, so_far(left));
             left
         }
-        RunResult::Refused(n) => {
-            say_refused(rt, n, number);
+        Err(e) => {
+            say_refused(rt, e);
             m
         }
     }
 }
 
 // A machine that is made, or the one that was.
-fn say_started(rt: &impl Print, m: Vm, s: Started, number: u64) -> Vm
+#[tactic(auto, unfolding(crate::specs::Said::after_started))]
+fn say_started(rt: &impl Print, m: Vm, s: Result<Vm, Refusal>) -> Vm
     ensures { result ≡ after_started m s }
 {
     match s {
-        Started::Done(made) => {
+        Ok(made) => {
             say(rt, b"done\n");
             made
         }
-        Started::Broken(at) => {
+        Err(Refusal::BrokenImage(at)) => {
             say_count(rt, b"broken ", at);
             say(rt, b"\n");
             m
         }
-        Started::Refused(n) => {
-            say_refused(rt, n, number);
+        Err(e) => {
+            say_refused(rt, e);
             m
         }
     }
 }
 
 // A machine with another setting, or the one that was.
-fn say_set(rt: &impl Print, m: Vm, x: Changed, number: u64) -> Vm
+#[tactic(auto, unfolding(crate::specs::Said::after_set))]
+fn say_set(rt: &impl Print, m: Vm, x: Result<Vm, Refusal>) -> Vm
     ensures { result ≡ after_set m x }
 {
     match x {
-        Changed::Done(set) => {
+        Ok(set) => {
             say(rt, b"done\n");
             set
         }
-        Changed::Refused(n) => {
-            say_refused(rt, n, number);
+        Err(e) => {
+            say_refused(rt, e);
             m
         }
     }
 }
 
 // What emission answers.
+#[tactic(auto, unfolding(crate::specs::Said::after_emitted, console_damage::specs::Damage::with_program))]
 pub fn say_emitted(rt: &impl Print, m: Vm, e: Emitted, number: u64) -> Vm
     ensures { result ≡ after_emitted m e }
 {
     match e {
-        Emitted::Done(c, n) => {
+        None => {
+            say_unknown(rt, number);
+            m
+        }
+        Some(Ok((c, n))) => {
             say_count(rt, b"done ", n);
             say(rt, b"\n");
             Vm { program: c, ..m }
         }
-        Emitted::Refused(n) => {
-            say_refused(rt, n, number);
+        Some(Err(e)) => {
+            say_refused(rt, e);
             m
         }
     }
 }
 
 // What an entry that only looks answers.
-pub fn say_told(rt: &impl Print, t: Told, number: u64) {
+pub fn say_told(rt: &impl Print, t: Result<usize, Refusal>) {
     match t {
-        Told::Number(n) => {
+        Ok(n) => {
             say_count(rt, b"number ", n);
             say(rt, b"\n");
         }
-        Told::Refused(n) => say_refused(rt, n, number),
+        Err(e) => say_refused(rt, e),
     }
 }
 
 // What a reader answers: a value,
-pub fn say_shown(rt: &impl Print, s: Shown, cells: &[u64], number: u64) {
+pub fn say_shown(rt: &impl Print, s: Result<Value, Refusal>, cells: &[u64]) {
     match s {
-        Shown::Value(v) => {
+        Ok(v) => {
             say(rt, b"shown ");
             say_value(rt, v, cells);
             say(rt, b"\n");
         }
-        Shown::Refused(n) => say_refused(rt, n, number),
+        Err(e) => say_refused(rt, e),
     }
 }
 
 // a header,
-pub fn say_headed(rt: &impl Print, h: Headed, number: u64) {
+pub fn say_headed(rt: &impl Print, h: Result<Header, Refusal>) {
     match h {
-        Headed::Is(h) => {
+        Ok(h) => {
             say_count(rt, b"header ", h.count);
             say_count(rt, b" ", h.number);
             say_count(rt, b" ", h.depth);
             say(rt, b"\n");
         }
-        Headed::Refused(n) => say_refused(rt, n, number),
+        Err(e) => say_refused(rt, e),
     }
 }
 
 // or the bytes of a text, which lie at the front of space.
-pub fn say_text(rt: &impl Print, t: Told, space: &stores::Space, number: u64) {
+pub fn say_text(rt: &impl Print, t: Result<usize, Refusal>, space: &stores::Space) {
     match t {
-        Told::Number(n) => {
+        Ok(n) => {
             say_count(rt, b"text ", n);
             say(rt, b" ");
             say_bytes(rt, front(space, n));
         }
-        Told::Refused(n) => say_refused(rt, n, number),
+        Err(e) => say_refused(rt, e),
     }
 }
 
 // A backtrace, or its refusal; the machine is as it was.
-fn say_trace(rt: &impl Print, m: Vm, t: Told, trace: &[u64], number: u64) -> Vm
+fn say_trace(rt: &impl Print, m: Vm, t: Result<usize, Refusal>, trace: &[u64]) -> Vm
     ensures { result ≡ m }
 {
     match t {
-        Told::Number(n) => say_entries(rt, n, trace),
-        Told::Refused(n) => say_refused(rt, n, number),
+        Ok(n) => say_entries(rt, n, trace),
+        Err(e) => say_refused(rt, e),
     }
     m
 }
@@ -322,20 +324,14 @@ pub fn say_sum(rt: &impl Print, h: u64) {
 }
 
 // What a call over frames answers; the machine as it then is.
-pub fn say_answer(
-    rt: &impl Print,
-    m: Vm,
-    a: Answer,
-    cells: &[u64],
-    trace: &[u64],
-    number: u64,
-) -> Vm
+#[tactic(auto, unfolding(crate::specs::Said::after_answer))]
+pub fn say_answer(rt: &impl Print, m: Vm, a: Answer, cells: &[u64], trace: &[u64]) -> Vm
     ensures { result ≡ after_answer m a }
 {
     match a {
-        Answer::Made(s) => say_started(rt, m, s, number),
-        Answer::Ran(r) => say_run(rt, m, r, cells, trace, number),
-        Answer::Traced(t) => say_trace(rt, m, t, trace, number),
-        Answer::Set(x) => say_set(rt, m, x, number),
+        Answer::Made(s) => say_started(rt, m, s),
+        Answer::Ran(r) => say_run(rt, m, r, cells, trace),
+        Answer::Traced(t) => say_trace(rt, m, t, trace),
+        Answer::Set(x) => say_set(rt, m, x),
     }
 }

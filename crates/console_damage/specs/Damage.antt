@@ -1,17 +1,15 @@
 -- What is damaged: one count, or one number of the run that is under way, or the last result, and nothing else; one number of one store.
-use Rattle.std.specs.Prelude.{Bool, true, false, ◌&&◌, List, ℕ, ◌+◌, ◌*◌, ◌/◌, ◌%◌, ltb, length, get_or, set, if◌then◌else◌}
+use Rattle.std.specs.Prelude.{Bool, false, ◌&&◌, List, ℕ, ◌+◌, ◌*◌, ◌/◌, ◌%◌, ltb, length, get_or, set, if◌then◌else◌, Option, Some, None, option_and_then, option_map, unwrap_or, is_some}
 use Rattle.model.specs.declared.Vm.{Vm}
 use Rattle.model.specs.declared.Counts.{Counts}
 use Rattle.model.specs.declared.Run.{Run}
 use Rattle.model.specs.declared.Frame.{Frame}
-use Rattle.model.specs.declared.Last.{Last}
-use Rattle.model.specs.declared.Last.TheVariants.{Is}
 use Rattle.model.specs.Basics.{ascii}
 use Rattle.model.specs.Equality.{same_bytes}
 use Rattle.model.specs.Values.{value_of}
-use Rattle.console_damage.specs.declared.Changed.{Changed}
 use Rattle.console_script.specs.declared.Args.{Args}
 use Rattle.console_script.specs.Words.{word_of, args_of}
+use Rattle.model.specs.declared.Value.{Value}
 
 -- a machine with other counts of its program
 unfoldable pub with_program : Vm → Counts → Vm
@@ -21,60 +19,52 @@ with_program m c = record { program = c; stack = m.stack; frames = m.frames; cel
 unfoldable pub with_run : Vm → Run → Vm
 with_run m r = record { program = m.program; stack = m.stack; frames = m.frames; cells = m.cells; last = m.last; run = r; strict = m.strict }
 
--- understood, and the machine is then m
-unfoldable pub changed : Vm → Changed
-changed m = record { m = m; good = true }
-
--- not understood
-unfoldable pub unchanged : Vm → Changed
-unchanged m = record { m = m; good = false }
-
 -- the program's count of that name is n
-unfoldable pub program_with : Vm → Counts → List ℕ → ℕ → Changed
+unfoldable pub program_with : Vm → Counts → List ℕ → ℕ → Option Vm
 program_with m c name n =
-    if same_bytes name (ascii "constants") then changed (with_program m (record { constants = n; structs = c.structs; functions = c.functions; text = c.text; current = c.current })) else (
-    if same_bytes name (ascii "structs") then changed (with_program m (record { constants = c.constants; structs = n; functions = c.functions; text = c.text; current = c.current })) else (
-    if same_bytes name (ascii "functions") then changed (with_program m (record { constants = c.constants; structs = c.structs; functions = n; text = c.text; current = c.current })) else (
-    if same_bytes name (ascii "text") then changed (with_program m (record { constants = c.constants; structs = c.structs; functions = c.functions; text = n; current = c.current })) else (
-    if same_bytes name (ascii "current") then changed (with_program m (record { constants = c.constants; structs = c.structs; functions = c.functions; text = c.text; current = n })) else
-    unchanged m))))
+    if same_bytes name (ascii "constants") then Some (with_program m (record { constants = n; structs = c.structs; functions = c.functions; text = c.text; current = c.current })) else (
+    if same_bytes name (ascii "structs") then Some (with_program m (record { constants = c.constants; structs = n; functions = c.functions; text = c.text; current = c.current })) else (
+    if same_bytes name (ascii "functions") then Some (with_program m (record { constants = c.constants; structs = c.structs; functions = n; text = c.text; current = c.current })) else (
+    if same_bytes name (ascii "text") then Some (with_program m (record { constants = c.constants; structs = c.structs; functions = c.functions; text = n; current = c.current })) else (
+    if same_bytes name (ascii "current") then Some (with_program m (record { constants = c.constants; structs = c.structs; functions = c.functions; text = c.text; current = n })) else
+    None))))
 
 -- the number of that name of the run that is under way is n; one is under way where `on` is not 0
-unfoldable pub run_with : Vm → Run → List ℕ → ℕ → Changed
+unfoldable pub run_with : Vm → Run → List ℕ → ℕ → Option Vm
 run_with m r name n =
-    if same_bytes name (ascii "on") then changed (with_run m (record { on = ltb 0 n; given = r.given; spent = r.spent; returns = r.returns; mark = r.mark; saved = r.saved })) else (
-    if same_bytes name (ascii "given") then changed (with_run m (record { on = r.on; given = n; spent = r.spent; returns = r.returns; mark = r.mark; saved = r.saved })) else (
-    if same_bytes name (ascii "spent") then changed (with_run m (record { on = r.on; given = r.given; spent = n; returns = r.returns; mark = r.mark; saved = r.saved })) else (
-    if same_bytes name (ascii "returns") then changed (with_run m (record { on = r.on; given = r.given; spent = r.spent; returns = n; mark = r.mark; saved = r.saved })) else (
-    if same_bytes name (ascii "mark") then changed (with_run m (record { on = r.on; given = r.given; spent = r.spent; returns = r.returns; mark = n; saved = r.saved })) else (
-    if same_bytes name (ascii "saved") then changed (with_run m (record { on = r.on; given = r.given; spent = r.spent; returns = r.returns; mark = r.mark; saved = n })) else
+    if same_bytes name (ascii "on") then Some (with_run m (record { on = ltb 0 n; given = r.given; spent = r.spent; returns = r.returns; mark = r.mark; saved = r.saved })) else (
+    if same_bytes name (ascii "given") then Some (with_run m (record { on = r.on; given = n; spent = r.spent; returns = r.returns; mark = r.mark; saved = r.saved })) else (
+    if same_bytes name (ascii "spent") then Some (with_run m (record { on = r.on; given = r.given; spent = n; returns = r.returns; mark = r.mark; saved = r.saved })) else (
+    if same_bytes name (ascii "returns") then Some (with_run m (record { on = r.on; given = r.given; spent = r.spent; returns = n; mark = r.mark; saved = r.saved })) else (
+    if same_bytes name (ascii "mark") then Some (with_run m (record { on = r.on; given = r.given; spent = r.spent; returns = r.returns; mark = n; saved = r.saved })) else (
+    if same_bytes name (ascii "saved") then Some (with_run m (record { on = r.on; given = r.given; spent = r.spent; returns = r.returns; mark = r.mark; saved = n })) else
     program_with m m.program name n)))))
 
 -- the count of that name is n
-unfoldable pub count_with : Vm → List ℕ → ℕ → Changed
+unfoldable pub count_with : Vm → List ℕ → ℕ → Option Vm
 count_with m name n =
-    if same_bytes name (ascii "stack") then changed (record { program = m.program; stack = n; frames = m.frames; cells = m.cells; last = m.last; run = m.run; strict = m.strict }) else (
-    if same_bytes name (ascii "frames") then changed (record { program = m.program; stack = m.stack; frames = n; cells = m.cells; last = m.last; run = m.run; strict = m.strict }) else (
-    if same_bytes name (ascii "cells") then changed (record { program = m.program; stack = m.stack; frames = m.frames; cells = n; last = m.last; run = m.run; strict = m.strict }) else
+    if same_bytes name (ascii "stack") then Some (record { program = m.program; stack = n; frames = m.frames; cells = m.cells; last = m.last; run = m.run; strict = m.strict }) else (
+    if same_bytes name (ascii "frames") then Some (record { program = m.program; stack = m.stack; frames = n; cells = m.cells; last = m.last; run = m.run; strict = m.strict }) else (
+    if same_bytes name (ascii "cells") then Some (record { program = m.program; stack = m.stack; frames = m.frames; cells = n; last = m.last; run = m.run; strict = m.strict }) else
     run_with m m.run name n))
 
 -- the last result is that
-unfoldable pub last_with : Vm → Last → Vm
+unfoldable pub last_with : Vm → Option Value → Vm
 last_with m l = record { program = m.program; stack = m.stack; frames = m.frames; cells = m.cells; last = l; run = m.run; strict = m.strict }
 
 -- `count NAME N`
-unfoldable pub count_args : List ℕ → Args
+unfoldable pub count_args : List ℕ → Option Args
 count_args line = args_of line 2 3 (record { a = 281474976710655; b = 0; c = 0; d = 0; e = 0 })
 
-unfoldable pub count_asked : Vm → List ℕ → Changed
-count_asked m line = if (count_args line).good then count_with m (word_of line 1) (count_args line).a else unchanged m
+unfoldable pub count_asked : Vm → List ℕ → Option Vm
+count_asked m line = option_and_then (λ a. count_with m (word_of line 1) a.a) (count_args line)
 
 -- `result KIND PAYLOAD`, of a kind below 6
-unfoldable pub result_args : List ℕ → Args
+unfoldable pub result_args : List ℕ → Option Args
 result_args line = args_of line 1 3 (record { a = 5; b = 18446744073709551615; c = 0; d = 0; e = 0 })
 
-unfoldable pub result_asked : Vm → List ℕ → Changed
-result_asked m line = if (result_args line).good then changed (last_with m (Is (value_of (result_args line).a (result_args line).b))) else unchanged m
+unfoldable pub result_asked : Vm → List ℕ → Option Vm
+result_asked m line = option_map (λ a. last_with m (Some (value_of a.a a.b))) (result_args line)
 
 -- number i of a store is n, where there is such a number
 unfoldable pub put_at : List ℕ → ℕ → ℕ → List ℕ
@@ -140,27 +130,22 @@ poked_places name i n main_places other_places =
     record { good = false; main_places = main_places; other_places = other_places }))
 
 -- `poke STORE I N`
-unfoldable pub poke_args : List ℕ → Args
+unfoldable pub poke_args : List ℕ → Option Args
 poke_args line = args_of line 2 4 (record { a = 4294967295; b = 18446744073709551615; c = 0; d = 0; e = 0 })
 
 unfoldable pub words_asked : List ℕ → List ℕ → List ℕ → List ℕ → List ℕ → List ℕ → PokedWords
-words_asked line constants structs functions stack cells = if (poke_args line).good then poked_words (word_of line 1) (poke_args line).a
-    (poke_args line).b constants structs functions stack cells else record {
-      good = false;
-      constants = constants;
-      structs = structs;
-      functions = functions;
-      stack = stack;
-      cells = cells;
-    }
+words_asked line constants structs functions stack cells =
+    unwrap_or (option_map (λ a. poked_words (word_of line 1) a.a a.b constants structs functions stack cells) (poke_args line))
+    (record { good = false; constants = constants; structs = structs; functions = functions; stack = stack; cells = cells })
 
 unfoldable pub bytes_asked : List ℕ → List ℕ → List ℕ → List ℕ → PokedBytes
-bytes_asked line text main other = if (poke_args line).good then poked_bytes (word_of line 1) (poke_args line).a
-    (poke_args line).b text main other else record { good = false; text = text; main = main; other = other }
+bytes_asked line text main other =
+    unwrap_or (option_map (λ a. poked_bytes (word_of line 1) a.a a.b text main other) (poke_args line)) (record { good = false; text = text; main = main; other = other })
 
 unfoldable pub places_asked : List ℕ → List ℕ → List ℕ → PokedPlaces
-places_asked line main_places other_places = if (poke_args line).good then poked_places (word_of line 1) (poke_args line).a
-    (poke_args line).b main_places other_places else record { good = false; main_places = main_places; other_places = other_places }
+places_asked line main_places other_places =
+    unwrap_or (option_map (λ a. poked_places (word_of line 1) a.a a.b main_places other_places) (poke_args line))
+    (record { good = false; main_places = main_places; other_places = other_places })
 
 -- the frame that rests at i, in four numbers; one of zeros where there is none
 unfoldable pub frame_in : List ℕ → ℕ → Frame
@@ -177,12 +162,10 @@ frame_at s i f =
     else s
 
 -- `frame I` shows a frame, `frame I FUNCTION POSITION BASE ENTERED` puts one
-unfoldable pub frame_args : List ℕ → ℕ → Args
+unfoldable pub frame_args : List ℕ → ℕ → Option Args
 frame_args line end = args_of line 1 end (record { a = 281474976710655; b = 281474976710655; c = 281474976710655; d = 281474976710655; e = 281474976710655 })
 
 unfoldable pub frame_asked : List ℕ → List ℕ → List ℕ
 frame_asked line s =
-    if (frame_args line 2).good then s else (
-    if (frame_args line 6).good then frame_at s (frame_args line 6).a
-    (record { function = (frame_args line 6).b; position = (frame_args line 6).c; base = (frame_args line 6).d; entered = (frame_args line 6).e }) else
-    s)
+    if is_some (frame_args line 2) then s else
+    unwrap_or (option_map (λ a. frame_at s a.a (record { function = a.b; position = a.c; base = a.d; entered = a.e })) (frame_args line 6)) s

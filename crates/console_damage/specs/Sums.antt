@@ -1,11 +1,10 @@
 -- The checksum: over the counts, the last result, the run that is under way and every store, number by number, with a prime modulus.
-use Rattle.std.specs.Prelude.{List, ℕ, ◌+◌, ◌*◌, ◌/◌, ◌%◌}
+use Rattle.std.specs.Prelude.{List, ℕ, ◌+◌, ◌*◌, ◌/◌, ◌%◌, None, Option, Some}
 use Rattle.model.specs.declared.Run.{Run}
 use Rattle.model.specs.declared.Vm.{Vm}
-use Rattle.model.specs.declared.Last.{Last}
-use Rattle.model.specs.declared.Last.TheVariants.{Nothing, Is}
 use Rattle.model.specs.Values.{kind, payload, bit}
 use Rattle.console_script.specs.Words.{along}
+use Rattle.model.specs.declared.Value.{Value}
 
 -- the sum h with a number below 2^32 behind it
 unfoldable pub half_mixed : ℕ → ℕ → ℕ
@@ -19,9 +18,9 @@ mixed_with h x = half_mixed (half_mixed h (x / 4294967296)) (x % 4294967296)
 unfoldable pub mixed_all : ℕ → List ℕ → ℕ
 mixed_all h s = along mixed_with h s
 
-unfoldable pub mixed_last : ℕ → Last → ℕ
-mixed_last h Nothing = mixed_with h 7
-mixed_last h (Is v) = mixed_with (mixed_with h (kind v)) (payload v)
+unfoldable pub mixed_last : ℕ → Option Value → ℕ
+mixed_last h None = mixed_with h 7
+mixed_last h (Some v) = mixed_with (mixed_with h (kind v)) (payload v)
 
 -- with the run that is under way behind it
 unfoldable pub mixed_run : ℕ → Run → ℕ

@@ -7,56 +7,43 @@ ghost use Rattle.console_damage.specs.Damage.{program_with, run_with, count_with
 
 use console_script::{Most, read_args, stores, word};
 use layout::reads::same_bytes;
-use model::{Counts, Frame, Last, Run, Vm};
+use model::{Counts, Frame, Run, Value, Vm};
 use value::words;
 
 // ---- the checksum
 
 // The sum h with the number x behind it: a prime modulus, so that no change of one number goes unseen.
+#[tactic(auto, unfolding(crate::specs::Sums::half_mixed))]
 fn half_mixed(h: u64, x: u64) -> u64
     ensures { result ≡ half_mixed h x }
 {
     ((h % 4294967291) * 65599 + x % 4294967291) % 4294967291
 }
 
+#[tactic(auto, unfolding(crate::specs::Sums::mixed_with))]
 pub fn mixed(h: u64, x: u64) -> u64
     ensures { result ≡ mixed_with h x }
 {
     half_mixed(half_mixed(h, x / 0x1_0000_0000), x % 0x1_0000_0000)
 }
 
-fn wide(b: u8) -> u64
-    ensures { result ≡ b }
-{
-    b as u64
-}
-
-fn wide_place(n: u32) -> u64
-    ensures { result ≡ n }
-{
-    n as u64
-}
-
 pub fn mixed_words(h: u64, s: &[u64]) -> u64
     ensures { result ≡ mixed_all h s.now }
 {
     let mut sum = h;
-    let mut i = 0;
-    while i < s.len() {
-        sum = mixed(sum, s[i]);
-        i += 1;
+    for x in s {
+        sum = mixed(sum, *x);
     }
     sum
 }
 
+// This and `mixed_bytes` differ from `mixed_words` in a conversion alone, and a trait for it would be longer than they are: no plainer.
 pub fn mixed_places(h: u64, s: &[u32]) -> u64
     ensures { result ≡ mixed_all h s.now }
 {
     let mut sum = h;
-    let mut i = 0;
-    while i < s.len() {
-        sum = mixed(sum, wide_place(s[i]));
-        i += 1;
+    for x in s {
+        sum = mixed(sum, *x as u64);
     }
     sum
 }
@@ -65,23 +52,23 @@ pub fn mixed_bytes(h: u64, s: &[u8]) -> u64
     ensures { result ≡ mixed_all h s.now }
 {
     let mut sum = h;
-    let mut i = 0;
-    while i < s.len() {
-        sum = mixed(sum, wide(s[i]));
-        i += 1;
+    for x in s {
+        sum = mixed(sum, *x as u64);
     }
     sum
 }
 
-fn mixed_last(h: u64, last: Last) -> u64
+#[tactic(auto, unfolding(crate::specs::Sums::mixed_last))]
+fn mixed_last(h: u64, last: Option<Value>) -> u64
     ensures { result ≡ mixed_last h last }
 {
     match last {
-        Last::Nothing => mixed(h, 7),
-        Last::Is(v) => mixed(mixed(h, words::kind_of(v)), words::payload_of(v)),
+        None => mixed(h, 7),
+        Some(v) => mixed(mixed(h, words::kind_of(v)), words::payload_of(v)),
     }
 }
 
+#[tactic(auto, unfolding(crate::specs::Sums::mixed_run))]
 fn mixed_run(h: u64, r: Run) -> u64
     ensures { result ≡ mixed_run h r }
 {
@@ -93,6 +80,7 @@ fn mixed_run(h: u64, r: Run) -> u64
 }
 
 // The counts, the last result and the run that is under way.
+#[tactic(auto, unfolding(crate::specs::Sums::mixed_counts))]
 pub fn mixed_counts(h: u64, m: Vm) -> u64
     ensures { result ≡ mixed_counts h m }
 {
@@ -113,6 +101,7 @@ pub fn mixed_counts(h: u64, m: Vm) -> u64
 // ---- frames, which rest between calls as four numbers each
 
 // The frame at i; one of zeros where there is none.
+#[tactic(auto, unfolding(crate::specs::Damage::frame_in))]
 pub fn frame_in(words: &[u64], i: usize) -> Frame
     ensures { result ≡ frame_in words.now i }
 {
@@ -133,6 +122,7 @@ pub fn frame_in(words: &[u64], i: usize) -> Frame
     }
 }
 
+#[tactic(auto, unfolding(crate::specs::Damage::frame_at))]
 pub fn put_frame(words: &mut [u64], i: usize, f: Frame)
     ensures { words.new ≡ frame_at words.old i f }
 {
@@ -147,142 +137,119 @@ pub fn put_frame(words: &mut [u64], i: usize, f: Frame)
 
 // ---- damage
 
-// A number, or as it was, and whether it was understood.
-#[derive(Clone, Copy)]
-pub struct Changed {
-    pub m: Vm,
-    pub good: bool,
-}
-
 // One of the program's counts.
-fn with_program(m: Vm, name: &[u8], n: usize) -> Changed
+#[tactic(auto, unfolding(model::specs::Basics::ascii, crate::specs::Damage::program_with, crate::specs::Damage::with_program))]
+fn with_program(m: Vm, name: &[u8], n: usize) -> Option<Vm>
     ensures { result ≡ program_with m m.program name.now n }
 {
     let c = m.program;
     if same_bytes(name, b"constants") {
-        let p = Counts { constants: n, ..c };
-        return Changed {
-            m: Vm { program: p, ..m },
-            good: true,
-        };
+        return Some(Vm {
+            program: Counts { constants: n, ..c },
+            ..m
+        });
     }
     if same_bytes(name, b"structs") {
-        let p = Counts { structs: n, ..c };
-        return Changed {
-            m: Vm { program: p, ..m },
-            good: true,
-        };
+        return Some(Vm {
+            program: Counts { structs: n, ..c },
+            ..m
+        });
     }
     if same_bytes(name, b"functions") {
-        let p = Counts { functions: n, ..c };
-        return Changed {
-            m: Vm { program: p, ..m },
-            good: true,
-        };
+        return Some(Vm {
+            program: Counts { functions: n, ..c },
+            ..m
+        });
     }
     if same_bytes(name, b"text") {
-        let p = Counts { text: n, ..c };
-        return Changed {
-            m: Vm { program: p, ..m },
-            good: true,
-        };
+        return Some(Vm {
+            program: Counts { text: n, ..c },
+            ..m
+        });
     }
     if same_bytes(name, b"current") {
-        let p = Counts { current: n, ..c };
-        return Changed {
-            m: Vm { program: p, ..m },
-            good: true,
-        };
+        return Some(Vm {
+            program: Counts { current: n, ..c },
+            ..m
+        });
     }
-    Changed { m, good: false }
+    None
 }
 
 // One of the numbers of the run that is under way, or of the program's counts.
-fn with_run(m: Vm, name: &[u8], n: usize) -> Changed
+#[tactic(auto, unfolding(model::specs::Basics::ascii, crate::specs::Damage::run_with, crate::specs::Damage::with_run))]
+fn with_run(m: Vm, name: &[u8], n: usize) -> Option<Vm>
     ensures { result ≡ run_with m m.run name.now n }
 {
     let r = m.run;
     if same_bytes(name, b"on") {
-        let run = Run { on: 0 < n, ..r };
-        return Changed {
-            m: Vm { run, ..m },
-            good: true,
-        };
+        return Some(Vm {
+            run: Run { on: 0 < n, ..r },
+            ..m
+        });
     }
     if same_bytes(name, b"given") {
-        let run = Run {
-            given: n as u64,
-            ..r
-        };
-        return Changed {
-            m: Vm { run, ..m },
-            good: true,
-        };
+        return Some(Vm {
+            run: Run {
+                given: n as u64,
+                ..r
+            },
+            ..m
+        });
     }
     if same_bytes(name, b"spent") {
-        let run = Run {
-            spent: n as u64,
-            ..r
-        };
-        return Changed {
-            m: Vm { run, ..m },
-            good: true,
-        };
+        return Some(Vm {
+            run: Run {
+                spent: n as u64,
+                ..r
+            },
+            ..m
+        });
     }
     if same_bytes(name, b"returns") {
-        let run = Run {
-            returns: n as u64,
-            ..r
-        };
-        return Changed {
-            m: Vm { run, ..m },
-            good: true,
-        };
+        return Some(Vm {
+            run: Run {
+                returns: n as u64,
+                ..r
+            },
+            ..m
+        });
     }
     if same_bytes(name, b"mark") {
-        let run = Run { mark: n, ..r };
-        return Changed {
-            m: Vm { run, ..m },
-            good: true,
-        };
+        return Some(Vm {
+            run: Run { mark: n, ..r },
+            ..m
+        });
     }
     if same_bytes(name, b"saved") {
-        let run = Run { saved: n, ..r };
-        return Changed {
-            m: Vm { run, ..m },
-            good: true,
-        };
+        return Some(Vm {
+            run: Run { saved: n, ..r },
+            ..m
+        });
     }
     with_program(m, name, n)
 }
 
 // One of the counts.
-fn with_named(m: Vm, name: &[u8], n: usize) -> Changed
+#[tactic(auto, unfolding(model::specs::Basics::ascii, crate::specs::Damage::count_with))]
+fn with_named(m: Vm, name: &[u8], n: usize) -> Option<Vm>
     ensures { result ≡ count_with m name.now n }
 {
     if same_bytes(name, b"stack") {
-        return Changed {
-            m: Vm { stack: n, ..m },
-            good: true,
-        };
+        return Some(Vm { stack: n, ..m });
     }
     if same_bytes(name, b"frames") {
-        return Changed {
-            m: Vm { frames: n, ..m },
-            good: true,
-        };
+        return Some(Vm { frames: n, ..m });
     }
     if same_bytes(name, b"cells") {
-        return Changed {
-            m: Vm { cells: n, ..m },
-            good: true,
-        };
+        return Some(Vm { cells: n, ..m });
     }
     with_run(m, name, n)
 }
 
 // `count NAME N`.
-pub fn with_count(m: Vm, line: &[u8]) -> Changed
+#[tactic(auto, unfolding(crate::specs::Damage::count_args, crate::specs::Damage::count_asked))]
+pub fn with_count(m: Vm, line: &[u8]) -> Option<Vm>
     ensures { result ≡ count_asked m line.now }
 {
     let a = read_args(
@@ -296,15 +263,13 @@ pub fn with_count(m: Vm, line: &[u8]) -> Changed
             d: 0,
             e: 0,
         },
-    );
-    if a.good {
-        return with_named(m, word(line, 1), a.a as usize);
-    }
-    Changed { m, good: false }
+    )?;
+    with_named(m, word(line, 1), a.a as usize)
 }
 
 // `result KIND PAYLOAD`: the last result, of a kind below 6.
-pub fn with_result(m: Vm, line: &[u8]) -> Changed
+#[tactic(auto, unfolding(crate::specs::Damage::result_args, crate::specs::Damage::result_asked, crate::specs::Damage::last_with))]
+pub fn with_result(m: Vm, line: &[u8]) -> Option<Vm>
     ensures { result ≡ result_asked m line.now }
 {
     let a = read_args(
@@ -318,17 +283,14 @@ pub fn with_result(m: Vm, line: &[u8]) -> Changed
             d: 0,
             e: 0,
         },
-    );
-    if a.good {
-        let last = Last::Is(words::value_of(a.a, a.b));
-        return Changed {
-            m: Vm { last, ..m },
-            good: true,
-        };
-    }
-    Changed { m, good: false }
+    )?;
+    Some(Vm {
+        last: Some(words::value_of(a.a, a.b)),
+        ..m
+    })
 }
 
+#[tactic(auto, unfolding(crate::specs::Damage::put_at))]
 fn put_word(s: &mut [u64], i: usize, n: u64) -> bool
     ensures { (result ≡ ltb i (length s.old)) × (s.new ≡ put_at s.old i n) }
 {
@@ -339,6 +301,7 @@ fn put_word(s: &mut [u64], i: usize, n: u64) -> bool
     false
 }
 
+#[tactic(auto, unfolding(crate::specs::Damage::put_at))]
 fn put_byte(s: &mut [u8], i: usize, n: u64) -> bool
     ensures { (result ≡ (ltb i (length s.old) && ltb n 256)) × (s.new ≡ put_at s.old i (n % 256)) }
 {
@@ -349,6 +312,8 @@ fn put_byte(s: &mut [u8], i: usize, n: u64) -> bool
     false
 }
 
+// As `put_byte`, but for the width, which the cast and the bound name; a trait would name both a third time.
+#[tactic(auto, unfolding(crate::specs::Damage::put_at))]
 fn put_place(s: &mut [u32], i: usize, n: u64) -> bool
     ensures { (result ≡ (ltb i (length s.old) && ltb n 4294967296)) × (s.new ≡ put_at s.old i (n % 4294967296)) }
 {
@@ -359,6 +324,7 @@ fn put_place(s: &mut [u32], i: usize, n: u64) -> bool
     false
 }
 
+#[tactic(auto, unfolding(model::specs::Basics::ascii, crate::specs::Damage::poked_words))]
 fn poke_words(
     store: &[u8],
     i: usize,
@@ -389,6 +355,7 @@ fn poke_words(
     false
 }
 
+#[tactic(auto, unfolding(model::specs::Basics::ascii, crate::specs::Damage::poked_bytes))]
 fn poke_bytes(
     store: &[u8],
     i: usize,
@@ -411,6 +378,7 @@ fn poke_bytes(
     false
 }
 
+#[tactic(auto, unfolding(model::specs::Basics::ascii, crate::specs::Damage::poked_places))]
 fn poke_places(
     store: &[u8],
     i: usize,
@@ -429,24 +397,18 @@ fn poke_places(
     false
 }
 
-// `poke STORE I N`: number I of a store.
+// `poke STORE I N`: number I of a store; whether it was understood.
+#[tactic(auto, unfolding(crate::specs::Damage::poke_args, crate::specs::Damage::words_asked, crate::specs::Damage::bytes_asked, crate::specs::Damage::places_asked))]
 pub fn poke(
     line: &[u8],
-    constants: &mut stores::Constants,
-    structs: &mut stores::Structs,
-    functions: &mut stores::Functions,
-    text: &mut stores::Text,
-    main: &mut stores::Code,
-    main_places: &mut stores::Places,
-    other: &mut stores::Code,
-    other_places: &mut stores::Places,
+    program: &mut stores::Program,
     stack: &mut stores::Stack,
     cells: &mut stores::Cells,
 ) -> bool
-    ensures { (result ≡ (((words_asked line.now constants.old structs.old functions.old stack.old cells.old).good || (bytes_asked line.now text.old main.old other.old).good) || (places_asked line.now main_places.old other_places.old).good)) × (record { good = (words_asked line.now constants.old structs.old functions.old stack.old cells.old).good; constants = constants.new; structs = structs.new; functions = functions.new; stack = stack.new; cells = cells.new } ≡ words_asked line.now constants.old structs.old functions.old stack.old cells.old) × (record { good = (bytes_asked line.now text.old main.old other.old).good; text = text.new; main = main.new; other = other.new } ≡ bytes_asked line.now text.old main.old other.old) × (record { good = (places_asked line.now main_places.old other_places.old).good; main_places = main_places.new; other_places = other_places.new } ≡ places_asked line.now main_places.old other_places.old) }
+    ensures { (result ≡ (((words_asked line.now program.old.constants program.old.structs program.old.functions stack.old cells.old).good || (bytes_asked line.now program.old.text program.old.main program.old.other).good) || (places_asked line.now program.old.main_places program.old.other_places).good)) × (record { good = (words_asked line.now program.old.constants program.old.structs program.old.functions stack.old cells.old).good; constants = program.new.constants; structs = program.new.structs; functions = program.new.functions; stack = stack.new; cells = cells.new } ≡ words_asked line.now program.old.constants program.old.structs program.old.functions stack.old cells.old) × (record { good = (bytes_asked line.now program.old.text program.old.main program.old.other).good; text = program.new.text; main = program.new.main; other = program.new.other } ≡ bytes_asked line.now program.old.text program.old.main program.old.other) × (record { good = (places_asked line.now program.old.main_places program.old.other_places).good; main_places = program.new.main_places; other_places = program.new.other_places } ≡ places_asked line.now program.old.main_places program.old.other_places) }
 {
     let store = word(line, 1);
-    let a = read_args(
+    let args = read_args(
         line,
         2,
         4,
@@ -458,11 +420,31 @@ pub fn poke(
             e: 0,
         },
     );
+    let Some(a) = args else {
+        return false;
+    };
     let i = a.a as usize;
-    if a.good {
-        return poke_words(store, i, a.b, constants, structs, functions, stack, cells)
-            | poke_bytes(store, i, a.b, text, main, other)
-            | poke_places(store, i, a.b, main_places, other_places);
-    }
-    false
+    poke_words(
+        store,
+        i,
+        a.b,
+        &mut program.constants,
+        &mut program.structs,
+        &mut program.functions,
+        stack,
+        cells,
+    ) | poke_bytes(
+        store,
+        i,
+        a.b,
+        &mut program.text,
+        &mut program.main,
+        &mut program.other,
+    ) | poke_places(
+        store,
+        i,
+        a.b,
+        &mut program.main_places,
+        &mut program.other_places,
+    )
 }

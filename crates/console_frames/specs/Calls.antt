@@ -1,19 +1,21 @@
 -- What a call over frames answers, and what all stores then hold: by the machine's own rules.
-use Rattle.std.specs.Prelude.{◌≡◌, List, ℕ, replicate}
+use Rattle.std.specs.Prelude.{◌≡◌, List, ℕ, replicate, Result}
 use Rattle.model.specs.declared.Vm.{Vm}
 use Rattle.model.specs.declared.Frame.{Frame}
-use Rattle.model.specs.declared.RunResult.{RunResult}
-use Rattle.model.specs.declared.Changed.{Changed}
 use Rattle.model.specs.Stores.{Stores}
 use Rattle.model.specs.Loading.{OutRes}
 use Rattle.model.specs.Machines as machine
 use Rattle.model.specs.Machines.{StartRes, RunCall, begins, continues, abandons, RunPost, set_strict, new_machine_of, load_machine_of, backtrace_in}
 use Rattle.frames.specs.Links.{no_frame}
+use Rattle.console_script.specs.declared.stores.Stores.{Stores as AllStores}
+use Rattle.console_script.specs.Stored.{stored}
 use Rattle.console_frames.specs.declared.Call.{Call}
 use Rattle.console_frames.specs.declared.Call.TheVariants as c
 use Rattle.console_frames.specs.declared.Answer.{Answer}
 use Rattle.console_frames.specs.declared.Answer.TheVariants as a
 use Rattle.console_frames.specs.Resting.{all_laid, all_kept}
+use Rattle.model.specs.declared.Halt.{Halt}
+use Rattle.model.specs.declared.Refusal.{Refusal}
 
 -- what the stores hold: the program's, those that a run is lent, and the words that frames rest in
 pub record Held : Type 0 where
@@ -25,24 +27,12 @@ pub record Held : Type 0 where
   pub frames : List ℕ
 
 -- store by store
-abbrev pub held : (constants structs functions text main main_places other other_places stack cells copy trace frames : List ℕ) → Held
-held constants structs functions text main main_places other other_places stack cells copy trace frames = record {
-  program = record {
-    constants = constants;
-    structs = structs;
-    functions = functions;
-    text = text;
-    main = main;
-    main_places = main_places;
-    other = other;
-    other_places = other_places;
-  };
-  stack = stack;
-  cells = cells;
-  copy = copy;
-  trace = trace;
-  frames = frames;
-}
+abbrev pub held : (program : Stores) (stack cells copy trace frames : List ℕ) → Held
+held program stack cells copy trace frames = record { program = program; stack = stack; cells = cells; copy = copy; trace = trace; frames = frames }
+
+-- what all stores hold
+abbrev pub held_by : AllStores → Held
+held_by s = held (stored s.program) s.stack s.cells s.copy s.trace s.frames
 
 -- ---- a call: frames are those before it, frames' those that it leaves
 
@@ -62,7 +52,7 @@ lent_in frames s = record { stack = s.stack; cells = s.cells; frames = frames; c
 
 -- the rule of that call of a run, over the frames as records; the program's stores are as they were
 pub record Running (call : RunCall) (m : Vm) (frames : List Frame) (s : Held) (r : Answer) (frames' : List Frame) (s' : Held) : Type 0 where
-  pub result : RunResult
+  pub result : Result Halt Refusal
   pub answer : r ≡ a.Ran result
   pub post : RunPost call m s.program (lent_in frames s) result (lent_in frames' s')
   pub program : s'.program ≡ s.program
@@ -79,7 +69,7 @@ pub record Tracing (w : OutRes) (frames : List Frame) (s : Held) (r : Answer) (f
   pub stores : s' ≡ traced_in w s
 
 -- x says what the machine's setting now is; nothing else is written
-pub record Setting (x : Changed) (frames : List Frame) (s : Held) (r : Answer) (frames' : List Frame) (s' : Held) : Type 0 where
+pub record Setting (x : Result Vm Refusal) (frames : List Frame) (s : Held) (r : Answer) (frames' : List Frame) (s' : Held) : Type 0 where
   pub answer : r ≡ a.Set x
   pub same : frames' ≡ frames
   pub stores : s' ≡ s

@@ -1,20 +1,9 @@
 -- The frames rest between calls in words, four to a frame. For a call they are laid as records, and after it they are kept in words again:
 -- from the last to the first.
-use Rattle.std.specs.Prelude.{true, false, List, ℕ, zero, suc, length, get_or, set}
+use Rattle.std.specs.Prelude.{List, ℕ, zero, suc, length, get_or, set}
 use Rattle.model.specs.declared.Frame.{Frame}
 use Rattle.frames.specs.Links.{no_frame}
-use Rattle.console_frames.specs.declared.Left.{Left}
-use Rattle.console_frames.specs.declared.Resting.{Resting}
 use Rattle.console_damage.specs.Damage.{frame_in, frame_at}
-
--- where the last of n stands, and whether there is one
-unfoldable pub last_of : ℕ → Left
-last_of zero = record { at = 0; more = false }
-last_of (suc n) = record { at = n; more = true }
-
--- the same with the frame that rests there
-unfoldable pub last_in : (words : List ℕ) (n : ℕ) → Resting
-last_in words n = record { at = (last_of n).at; more = (last_of n).more; frame = frame_in words (last_of n).at }
 
 -- the first n records are the frames that rest in words
 unfoldable pub laid : (n : ℕ) (words : List ℕ) (frames : List Frame) → List Frame

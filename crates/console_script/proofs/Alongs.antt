@@ -1,8 +1,9 @@
 -- A function applied along a slice, place by place.
---     along-on, along-by    one number more
+--     along-on              one number more
 --     along-end             no number is left
-use mathlib.Core.Path.{◌≡◌}
-use mathlib.Core.List.{List}
+--     along-stays           what each number leaves as it is
+use mathlib.Core.Path.{◌≡◌, refl}
+use mathlib.Core.List.{List, [], ◌∷◌}
 use Prim.Native.Nat.{ℕ, ◌+◌, ◌<◌, ◌≤◌}
 use native.Mathlib.Numerals.{add-one}
 use lib.ListN.{length, drop, get_or, drop_of_length-le}
@@ -14,10 +15,11 @@ module _ {A : Type 0} (f : A → ℕ → A) (s : List ℕ) {a b : A} (i : ℕ) (
   unfolding along
   along_on l q = rw (add-one, q, e, drop-cons s i 0)
 
-  -- the number by way of a function that tells it
-  pub along_by : i < length s → {x : A} {y : ℕ} → y ≡ get_or s i 0 → x ≡ f b y → a ≡ along f x (drop (i + 1) s)
-  along_by l p q = along_on l (rw (← p) q)
-
   pub along_end : length s ≤ i → b ≡ a
   unfolding along
   along_end l = rw (e, drop_of_length-le s l)
+
+pub along_stays : {A : Type 0} (f : A → ℕ → A) (a : A) → ((x : ℕ) → f a x ≡ a) → (s : List ℕ) → along f a s ≡ a
+unfolding along
+along_stays f a h [] = refl
+along_stays f a h (x ∷ s) = rw (h x) (along_stays f a h s)

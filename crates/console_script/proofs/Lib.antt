@@ -1,4 +1,3 @@
 pub mod Weights
 pub mod Alongs
 pub mod Nexts
-pub mod Numbers

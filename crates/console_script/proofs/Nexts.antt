@@ -2,7 +2,7 @@
 use mathlib.Core.Path.{◌≡◌}
 use mathlib.Core.Bool.{Bool, true, false}
 use mathlib.Core.List.{List}
-use Prim.Native.Nat.{ℕ, zero, suc, ◌+◌, ◌-◌, ◌<◌, ◌≤◌}
+use Prim.Native.Nat.{ℕ, suc, ◌+◌, ◌-◌, ◌<◌, ◌≤◌}
 use native.Mathlib.Numerals.{add-one}
 use native.Mathlib.Omega.{arith}
 use lib.ListN.{length, drop, get_or, drop_of_length-le}
@@ -24,13 +24,11 @@ module _ (t : ℕ → Bool) (s : List ℕ) (i : ℕ) where
   next_end l = rw (drop_of_length-le s l) (omega arith)
 
 -- a word further
-pub word_on : (s : List ℕ) (n at : ℕ) {y z : ℕ} → 0 < n → y ≡ next_of s 32 at → z ≡ next_word s y → word_at s n at ≡ word_at s (n - 1) z
+pub word_on : (s : List ℕ) (k i at : ℕ) {y z : ℕ} → i < k → y ≡ next_of s 32 at → z ≡ next_word s y → word_at s (k - i) at ≡ word_at s (k - (i + 1)) z
 unfolding word_at
-word_on s zero at l p q = absurd (let x : ⊥ = omega arith in x)
-word_on s (suc n) at l p q = let e : suc n - 1 ≡ n = omega arith in rw (e, q, p)
+word_on s k i at l p q = let e : k - i ≡ suc (k - (i + 1)) = omega arith in rw (e, q, p)
 
 -- no word is left
-pub words_end : (s : List ℕ) (k n at : ℕ) {w : ℕ} {r : List ℕ} → n ≤ 0 → w ≡ next_word s 0 → word_at s k w ≡ word_at s n at → r ≡ cut_of s at (length s) → r ≡ words_from s k
+pub words_end : (s : List ℕ) (k i at : ℕ) {w : ℕ} {r : List ℕ} → k ≤ i → w ≡ next_word s 0 → word_at s k w ≡ word_at s (k - i) at → r ≡ cut_of s at (length s) → r ≡ words_from s k
 unfolding word_at words_from
-words_end s k zero at l p e q = rw (← p, e) q
-words_end s k (suc n) at l p e q = absurd (let x : ⊥ = omega arith in x)
+words_end s k i at l p e q = let z : k - i ≡ 0 = omega arith in rw (← p, e, z) q

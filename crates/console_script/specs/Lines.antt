@@ -1,6 +1,7 @@
--- What falls at each line of a script, and at each frame of a sum: none of it is left where there is no next one.
-use Rattle.std.specs.Prelude.{Bool, true, false, ℕ, suc}
+-- How many lines of a script there can still be: none where there is no next one.
+use Rattle.std.specs.Prelude.{ℕ, suc, Option, Some, None}
+use Rattle.console_script.specs.declared.Line.{Line}
 
-unfoldable pub weight : Bool → ℕ → ℕ
-weight true n = suc n
-weight false n = 0
+unfoldable pub lines_left : Option Line → ℕ
+lines_left None = 0
+lines_left (Some l) = suc l.left

@@ -1,7 +1,6 @@
 -- A line's words, and the numbers that words say.
-use Rattle.std.specs.Prelude.{Bool, true, false, ◌&&◌, not, List, [], ◌∷◌, ℕ, zero, suc, ◌+◌, ◌*◌, ◌-◌, ◌%◌, ◌^◌, ltb, leb, eqb, length, take, drop, set, replicate, if◌then◌else◌}
+use Rattle.std.specs.Prelude.{Bool, not, List, [], ◌∷◌, ℕ, zero, suc, ◌+◌, ◌*◌, ◌-◌, ◌%◌, ◌^◌, ltb, leb, eqb, length, take, drop, set, replicate, if◌then◌else◌, Option, Some, None, option_and_then, is_some}
 use Rattle.console_script.specs.declared.Line.{Line}
-use Rattle.console_script.specs.declared.Number.{Number}
 use Rattle.console_script.specs.declared.Args.{Args}
 use Rattle.console_script.specs.declared.Most.{Most}
 use Rattle.console_script.specs.declared.Bytes.{Bytes}
@@ -32,19 +31,15 @@ cut_of s from to = if ltb to from then [] else (if ltb (length s) to then [] els
 
 -- the first line of a script
 unfoldable pub first_line : List ℕ → Line
-first_line s = record { start = 0; end = next_of s 10 0; number = 1; on = true; left = length s }
-
--- there is no line behind l
-unfoldable pub no_line : Line → Line
-no_line l = record { start = l.start; end = l.end; number = l.number; on = false; left = l.left }
+first_line s = record { start = 0; end = next_of s 10 0; number = 1; left = length s }
 
 -- the line behind l; none where there is no byte behind its end, or none is left
-unfoldable pub next_line : List ℕ → Line → Line
+unfoldable pub next_line : List ℕ → Line → Option Line
 next_line s l =
-    if eqb l.left 0 then no_line l else (
-    if leb (length s) l.end then no_line l else (
-    if leb (length s) (l.end + 1) then no_line l else
-    record { start = l.end + 1; end = next_of s 10 (l.end + 1); number = l.number % 4294967296 + 1; on = true; left = l.left - 1 }))
+    if eqb l.left 0 then None else (
+    if leb (length s) l.end then None else (
+    if leb (length s) (l.end + 1) then None else
+    Some (record { start = l.end + 1; end = next_of s 10 (l.end + 1); number = l.number % 4294967296 + 1; left = l.left - 1 })))
 
 -- the bytes of a line
 unfoldable pub line_of : List ℕ → Line → List ℕ
@@ -65,82 +60,90 @@ word_of s k = cut_of (words_from s k) 0 (next_of (words_from s k) 32 0)
 
 -- ---- numbers
 
--- what a digit of up to base 16 stands for, in capital letters; 16 where it is none
-unfoldable pub digit_of : ℕ → ℕ
-digit_of b = if ltb b 48 then 16 else (if ltb b 58 then b - 48 else (if ltb b 65 then 16 else (if ltb b 71 then b - 55 else 16)))
-
-unfoldable pub no_number : Number
-no_number = record { is = 0; good = false }
+-- what a digit of up to base 16 stands for, in capital letters
+unfoldable pub digit_of : ℕ → Option ℕ
+digit_of b = if ltb b 48 then None else (if ltb b 58 then Some (b - 48) else (if ltb b 65 then None else (if ltb b 71 then Some (b - 55) else None)))
 
 -- a digit more, in a base; what is no digit of it, or 2^64 and more, is no number
-unfoldable pub with_digit : ℕ → Number → ℕ → Number
-with_digit base n b = if leb base (digit_of b) then no_number else (if leb (2 ^ 64) (n.is * base + digit_of b) then no_number else record { is = n.is * base + digit_of b; good = n.good })
+unfoldable pub with_digit : ℕ → Option ℕ → ℕ → Option ℕ
+with_digit base n b = option_and_then (λ m. option_and_then (λ d. if leb base d then None else (if leb (2 ^ 64) (m * base + d) then None else Some (m * base + d))) (digit_of b)) n
 
 -- a word of at least one digit
-unfoldable pub number_of : ℕ → List ℕ → Number
-number_of base w = along (with_digit base) (record { is = 0; good = ltb 0 (length w) }) w
+unfoldable pub number_of : ℕ → List ℕ → Option ℕ
+number_of base w = if eqb (length w) 0 then None else along (with_digit base) (Some 0) w
 
 -- words that are one number and no more
-unfoldable pub alone_of : List ℕ → Number
-alone_of s = record { is = (number_of 10 (word_of s 0)).is; good = (number_of 10 (word_of s 0)).good && eqb (length (words_from s 1)) 0 }
+unfoldable pub alone_of : List ℕ → Option ℕ
+alone_of s = if eqb (length (words_from s 1)) 0 then number_of 10 (word_of s 0) else None
 
 -- the room that word k says, the last of the line; that of a whole store where there is no such word
-unfoldable pub room_of : List ℕ → ℕ → Number
-room_of s k = if eqb (length (words_from s k)) 0 then record { is = 4294967295; good = true } else alone_of (words_from s k)
+unfoldable pub room_of : List ℕ → ℕ → Option ℕ
+room_of s k = if eqb (length (words_from s k)) 0 then Some 4294967295 else alone_of (words_from s k)
 
 -- ---- the numbers of a command
 
 -- the number that word k of the words before end says, at most so much; 0 from there on
-unfoldable pub arg_of : List ℕ → ℕ → ℕ → ℕ → Number
-arg_of s k end most = if ltb k end then record {
-  is = (number_of 10 (word_of s k)).is;
-  good = (number_of 10 (word_of s k)).good && leb (number_of 10 (word_of s k)).is most;
-} else record { is = 0; good = true }
+unfoldable pub arg_of : List ℕ → ℕ → ℕ → ℕ → Option ℕ
+arg_of s k end most = if ltb k end then option_and_then (λ n. if leb n most then Some n else None) (number_of 10 (word_of s k)) else Some 0
 
 -- those of the words from k on, before end, where the line then ends
-unfoldable pub args_of : List ℕ → ℕ → ℕ → Most → Args
+unfoldable pub args_of : List ℕ → ℕ → ℕ → Most → Option Args
 args_of s k end most =
-    if ltb 100 k then record { a = 0; b = 0; c = 0; d = 0; e = 0; good = false } else record {
-      a = (arg_of s k end most.a).is;
-      b = (arg_of s (k + 1) end most.b).is;
-      c = (arg_of s (k + 2) end most.c).is;
-      d = (arg_of s (k + 3) end most.d).is;
-      e = (arg_of s (k + 4) end most.e).is;
-      good = (((((arg_of s k end most.a).good && (arg_of s (k + 1) end most.b).good) && (arg_of s (k + 2) end most.c).good) && (arg_of s (k + 3) end
-          most.d).good) && (arg_of s (k + 4) end most.e).good) && eqb (length (word_of s end)) 0;
-    }
+    if ltb 100 k then None else
+    option_and_then (λ a.
+    option_and_then (λ b.
+    option_and_then (λ c.
+    option_and_then (λ d.
+    option_and_then (λ e.
+    if eqb (length (word_of s end)) 0 then Some (record { a = a; b = b; c = c; d = d; e = e }) else None)
+    (arg_of s (k + 4) end most.e))
+    (arg_of s (k + 3) end most.d))
+    (arg_of s (k + 2) end most.c))
+    (arg_of s (k + 1) end most.b))
+    (arg_of s k end most.a)
 
 -- ---- bytes in hex
 
--- what was read, and the store that its bytes went to
+-- what was read, none where it is no byte or has no room, and the store that its bytes went to
 pub record Hexed : Type 0 where
-  pub read : Bytes
+  pub read : Option Bytes
   pub out : List ℕ
 
-unfoldable pub broken : Hexed → Hexed
-broken x = record { read = record { size = x.read.size; high = x.read.high; good = false }; out = x.out }
+-- a digit behind those that were read: the first of a byte, or the second, with which the byte goes to its place
+unfoldable pub with_low : Bytes → List ℕ → ℕ → Option ℕ → Hexed
+with_low h out d None = record { read = Some (record { size = h.size; high = Some d }); out = out }
+with_low h out d (Some high) =
+    if leb (length out) h.size then record { read = None; out = out } else
+    record { read = Some (record { size = h.size + 1; high = None }); out = set out h.size ((high * 16 + d) % 256) }
 
--- a character more: a blank, the first digit of a byte, or the second, with which the byte goes to its place
+unfoldable pub with_digit_of : Bytes → List ℕ → Option ℕ → Hexed
+with_digit_of h out None = record { read = None; out = out }
+with_digit_of h out (Some d) = with_low h out d h.high
+
+-- a character behind those that were read: a blank, or a digit
+unfoldable pub with_read : Option Bytes → List ℕ → ℕ → Hexed
+with_read None out b = record { read = None; out = out }
+with_read (Some h) out b = if eqb b 32 then record { read = Some h; out = out } else with_digit_of h out (digit_of b)
+
 unfoldable pub with_byte : Hexed → ℕ → Hexed
-with_byte x b =
-    if eqb b 32 then x else (
-    if ltb (digit_of b) 16 then (
-    if leb 16 x.read.high then record { read = record { size = x.read.size; high = digit_of b; good = x.read.good }; out = x.out } else (
-    if ltb x.read.size (length x.out) then record {
-      read = record { size = x.read.size + 1; high = 16; good = x.read.good };
-      out = set x.out x.read.size ((x.read.high * 16 + digit_of b) % 256);
-    } else
-    broken x)) else
-    broken x)
+with_byte x b = with_read x.read x.out b
 
--- no digit is left over
-unfoldable pub whole : Hexed → Hexed
-whole x = record { read = record { size = x.read.size; high = x.read.high; good = x.read.good && eqb x.read.high 16 }; out = x.out }
+-- how many bytes were read, where no digit is left over
+unfoldable pub whole : Bytes → Option ℕ
+whole h = if is_some h.high then None else Some h.size
+
+-- how many bytes words say, and the store with them at its front
+pub record Read : Type 0 where
+  pub size : Option ℕ
+  pub out : List ℕ
+
+unfoldable pub read_of : Hexed → Read
+read_of x = record { size = option_and_then whole x.read; out = x.out }
 
 -- the space that bytes are read into
 unfoldable pub blank : List ℕ
 blank = replicate 16384 0
 
 -- the bytes that words say, two digits to a byte, at the front of a store
-unfoldable pub hex_of : List ℕ → List ℕ → Hexed
-hex_of words out = whole (along with_byte (record { read = record { size = 0; high = 16; good = true }; out = out }) words)
+unfoldable pub hex_of : List ℕ → List ℕ → Read
+hex_of words out = read_of (along with_byte (record { read = Some (record { size = 0; high = None }); out = out }) words)

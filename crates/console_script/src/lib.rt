@@ -3,18 +3,15 @@
 
 pub mod stores; // stores.rt: how large each store is
 
-ghost use Rattle.std.specs.Prelude.{◌≡◌, ◌*◌, ◌/◌, ◌≤◌, min};
-ghost use Rattle.console_script.specs.Words.{next_of, next_word, cut_of, first_line, no_line, next_line, line_of, words_from, word_of, digit_of, no_number, with_digit, number_of, alone_of, room_of, arg_of, args_of, with_byte, hex_of};
+ghost use Rattle.std.specs.Prelude.{◌≡◌, ◌*◌, ◌/◌, ◌≤◌, min, Some};
+ghost use Rattle.console_script.specs.Words.{next_of, next_word, cut_of, first_line, next_line, line_of, words_from, word_of, digit_of, with_digit, number_of, alone_of, room_of, arg_of, args_of, with_byte, hex_of};
 
-use layout::reads::lesser;
-
-// A line: where it starts and ends, its number, whether there is such a line, and how many more there can be.
+// A line: where it starts and ends, its number, and how many more there can be.
 #[derive(Clone, Copy)]
 pub struct Line {
     pub start: usize,
     pub end: usize,
     pub number: u64,
-    pub on: bool,
     pub left: usize,
 }
 
@@ -22,41 +19,32 @@ pub struct Line {
 fn next_of(s: &[u8], b: u8, at: usize) -> usize
     ensures { result ≡ next_of s.now b at }
 {
-    let mut i = at;
-    while i < s.len() {
+    for i in at..s.len() {
         if s[i] == b {
             return i;
         }
-        i += 1;
     }
-    i
+    at.max(s.len())
 }
 
 // Where a byte that is not a blank is next, or the end.
 fn next_word(s: &[u8], at: usize) -> usize
     ensures { result ≡ next_word s.now at }
 {
-    let mut i = at;
-    while i < s.len() {
+    for i in at..s.len() {
         if s[i] != b' ' {
             return i;
         }
-        i += 1;
     }
-    i
+    at.max(s.len())
 }
 
 // The bytes from one place to another; none where they are not all there.
+#[tactic(auto, unfolding(crate::specs::Words::cut_of))]
 pub fn cut(s: &[u8], from: usize, to: usize) -> &[u8]
     ensures { result.now ≡ cut_of s.now from to }
 {
-    if to < from {
-        return &s[..0];
-    }
-    if s.len() < to {
-        return &s[..0];
-    }
-    &s[from..to]
+    s.get(from..to).unwrap_or(&[])
 }
 
 // The first n bytes of a space; none where it has fewer.
@@ -66,6 +54,7 @@ pub fn front(space: &stores::Space, n: usize) -> &[u8]
     cut(space, 0, n)
 }
 
+#[tactic(auto, unfolding(crate::specs::Words::first_line))]
 pub fn first_line(script: &[u8]) -> Line
     ensures { result ≡ first_line script.now }
 {
@@ -73,45 +62,31 @@ pub fn first_line(script: &[u8]) -> Line
         start: 0,
         end: next_of(script, b'\n', 0),
         number: 1,
-        on: true,
         left: script.len(),
     }
 }
 
-// There is no line behind l.
-fn no_line(l: Line) -> Line
-    ensures { result ≡ no_line l }
-{
-    Line { on: false, ..l }
-}
-
 // The line behind l. There are no more lines than bytes.
-pub fn next_line(l: Line, script: &[u8]) -> Line
+#[tactic(auto, unfolding(crate::specs::Words::next_line))]
+pub fn next_line(l: Line, script: &[u8]) -> Option<Line>
     ensures { result ≡ next_line script.now l }
 {
-    let left = l.left;
-    let end = l.end;
-    if left == 0 {
-        return no_line(l);
+    if l.left == 0 || script.len() <= l.end {
+        return None;
     }
-    if script.len() <= end {
-        return no_line(l);
-    }
-    let start = end + 1;
+    let start = l.end + 1;
     if script.len() <= start {
-        return no_line(l);
+        return None;
     }
-    let to = next_of(script, b'\n', start);
-    let number = l.number % 0x1_0000_0000 + 1;
-    Line {
+    Some(Line {
         start,
-        end: to,
-        number,
-        on: true,
-        left: left - 1,
-    }
+        end: next_of(script, b'\n', start),
+        number: l.number % 0x1_0000_0000 + 1,
+        left: l.left - 1,
+    })
 }
 
+#[tactic(auto, unfolding(crate::specs::Words::line_of))]
 pub fn bytes_of(script: &[u8], l: Line) -> &[u8]
     ensures { result.now ≡ line_of script.now l }
 {
@@ -123,15 +98,14 @@ pub fn words_from(line: &[u8], k: usize) -> &[u8]
     ensures { result.now ≡ words_from line.now k }
 {
     let mut at = next_word(line, 0);
-    let mut left = k;
-    while left > 0 {
+    for _ in 0..k {
         at = next_word(line, next_of(line, b' ', at));
-        left -= 1;
     }
     cut(line, at, line.len())
 }
 
 // Word k of a line; none where it has fewer.
+#[tactic(auto, unfolding(crate::specs::Words::word_of))]
 pub fn word(line: &[u8], k: usize) -> &[u8]
     ensures { result.now ≡ word_of line.now k }
 {
@@ -139,118 +113,71 @@ pub fn word(line: &[u8], k: usize) -> &[u8]
     cut(rest, 0, next_of(rest, b' ', 0))
 }
 
-// A number that a word may say.
-#[derive(Clone, Copy)]
-pub struct Number {
-    pub is: u64,
-    pub good: bool,
-}
-
-// What a digit of up to base 16 stands for; 16 where it is none.
-fn digit(b: u8) -> u64
+// What a digit of up to base 16 stands for.
+#[tactic(auto, unfolding(crate::specs::Words::digit_of))]
+fn digit(b: u8) -> Option<u8>
     ensures { result ≡ digit_of b }
 {
-    let d = b as u64;
-    if d < 48 {
-        return 16;
-    }
-    if d < 58 {
-        return d - 48;
-    }
-    if d < 65 {
-        return 16;
-    }
-    if d < 71 {
-        return d - 55;
-    }
-    16
-}
-
-fn no_number() -> Number
-    ensures { result ≡ no_number }
-{
-    Number { is: 0, good: false }
-}
-
-fn with_decimal(n: Number, b: u8) -> Number
-    ensures { result ≡ with_digit 10 n b }
-{
-    let d = digit(b);
-    let is = n.is;
-    if 10 <= d {
-        return no_number();
-    }
-    if (0xFFFF_FFFF_FFFF_FFFF - d) / 10 < is {
-        return no_number();
-    }
-    Number {
-        is: is * 10 + d,
-        good: n.good,
+    match b {
+        b'0'..=b'9' => Some(b - b'0'),
+        b'A'..=b'F' => Some(b - b'A' + 10),
+        _ => None,
     }
 }
 
-fn with_hex(n: Number, b: u8) -> Number
-    ensures { result ≡ with_digit 16 n b }
+// The number n in a base with a digit more, where that is a digit of the base and the number is one of 64 bits.
+#[tactic(auto, unfolding(crate::specs::Words::with_digit))]
+fn with_digit(base: u64, n: u64, b: u8) -> Option<u64>
+    ensures { result ≡ with_digit base (Some n) b }
 {
-    let d = digit(b);
-    let is = n.is;
-    if 16 <= d {
-        return no_number();
+    let d = digit(b)? as u64;
+    if base <= d {
+        return None;
     }
-    if 0x1000_0000_0000_0000 <= is {
-        return no_number();
+    n.checked_mul(base)?.checked_add(d)
+}
+
+// A word of at least one digit.
+#[tactic(auto, unfolding(crate::specs::Words::number_of, crate::specs::Words::along))]
+fn number(base: u64, w: &[u8]) -> Option<u64>
+    ensures { result ≡ number_of base w.now }
+{
+    if w.is_empty() {
+        return None;
     }
-    Number {
-        is: is * 16 + d,
-        good: n.good,
+    let mut n = 0;
+    for b in w {
+        n = with_digit(base, n, *b)?;
     }
+    Some(n)
 }
 
 // A word in decimal.
-pub fn decimal(w: &[u8]) -> Number
+pub fn decimal(w: &[u8]) -> Option<u64>
     ensures { result ≡ number_of 10 w.now }
 {
-    let mut n = Number {
-        is: 0,
-        good: w.len() > 0,
-    };
-    let mut i = 0;
-    while i < w.len() {
-        n = with_decimal(n, w[i]);
-        i += 1;
-    }
-    n
-}
-
-// Words that are one number in decimal.
-fn decimal_alone(words: &[u8]) -> Number
-    ensures { result ≡ alone_of words.now }
-{
-    let n = decimal(word(words, 0));
-    let rest = words_from(words, 1);
-    Number {
-        is: n.is,
-        good: n.good & (rest.len() == 0),
-    }
+    number(10, w)
 }
 
 // A word in hex.
-pub fn hex(w: &[u8]) -> Number
+pub fn hex(w: &[u8]) -> Option<u64>
     ensures { result ≡ number_of 16 w.now }
 {
-    let mut n = Number {
-        is: 0,
-        good: w.len() > 0,
-    };
-    let mut i = 0;
-    while i < w.len() {
-        n = with_hex(n, w[i]);
-        i += 1;
-    }
-    n
+    number(16, w)
 }
 
-// The numbers that a command of up to five numbers says, and whether it says them and nothing else, none above its most.
+// Words that are one number in decimal.
+#[tactic(auto, unfolding(crate::specs::Words::alone_of))]
+fn decimal_alone(words: &[u8]) -> Option<u64>
+    ensures { result ≡ alone_of words.now }
+{
+    if !words_from(words, 1).is_empty() {
+        return None;
+    }
+    decimal(word(words, 0))
+}
+
+// The numbers that a command of up to five numbers says.
 #[derive(Clone, Copy)]
 pub struct Args {
     pub a: u64,
@@ -258,7 +185,6 @@ pub struct Args {
     pub c: u64,
     pub d: u64,
     pub e: u64,
-    pub good: bool,
 }
 
 // The most that each number may be.
@@ -271,49 +197,38 @@ pub struct Most {
     pub e: u64,
 }
 
-// The number that word k of the words before end says; 0 from there on.
-fn arg(line: &[u8], k: usize, end: usize, most: u64) -> Number
+// The number that word k of the words before end says, at most so much; 0 from there on.
+#[tactic(auto, unfolding(crate::specs::Words::arg_of))]
+fn arg(line: &[u8], k: usize, end: usize, most: u64) -> Option<u64>
     ensures { result ≡ arg_of line.now k end most }
 {
-    if k < end {
-        let n = decimal(word(line, k));
-        return Number {
-            is: n.is,
-            good: n.good & (n.is <= most),
-        };
+    if end <= k {
+        return Some(0);
     }
-    Number { is: 0, good: true }
+    let n = decimal(word(line, k))?;
+    if most < n {
+        return None;
+    }
+    Some(n)
 }
 
-// The numbers of the words from k on, before end.
-pub fn read_args(line: &[u8], k: usize, end: usize, most: Most) -> Args
+// The numbers of the words from k on, before end, where the line then ends.
+#[tactic(auto, unfolding(crate::specs::Words::args_of))]
+pub fn read_args(line: &[u8], k: usize, end: usize, most: Most) -> Option<Args>
     ensures { result ≡ args_of line.now k end most }
 {
     if 100 < k {
-        return Args {
-            a: 0,
-            b: 0,
-            c: 0,
-            d: 0,
-            e: 0,
-            good: false,
-        };
+        return None;
     }
-    let a = arg(line, k, end, most.a);
-    let b = arg(line, k + 1, end, most.b);
-    let c = arg(line, k + 2, end, most.c);
-    let d = arg(line, k + 3, end, most.d);
-    let e = arg(line, k + 4, end, most.e);
-    let rest = word(line, end);
-    let good = a.good & b.good & c.good & d.good & e.good & (rest.len() == 0);
-    Args {
-        a: a.is,
-        b: b.is,
-        c: c.is,
-        d: d.is,
-        e: e.is,
-        good,
+    let a = arg(line, k, end, most.a)?;
+    let b = arg(line, k + 1, end, most.b)?;
+    let c = arg(line, k + 2, end, most.c)?;
+    let d = arg(line, k + 3, end, most.d)?;
+    let e = arg(line, k + 4, end, most.e)?;
+    if !word(line, end).is_empty() {
+        return None;
     }
+    Some(Args { a, b, c, d, e })
 }
 
 // Of any store so many places count: the room that is lent where a line says none.
@@ -327,96 +242,83 @@ pub fn whole() -> usize
 pub fn at_most(room: usize, n: usize) -> usize
     ensures { (result ≡ min room n) × (result ≤ n) }
 {
-    lesser(room, n)
+    room.min(n)
 }
 
 // The words of so many places of two words each, at most n.
 pub fn two_each(room: usize, n: usize) -> usize
     ensures { (result ≡ 2 * min room (n / 2)) × (result ≤ n) }
 {
-    2 * lesser(room, n / 2)
+    2 * room.min(n / 2)
 }
 
 // The same of three words each.
 pub fn three_each(room: usize, n: usize) -> usize
     ensures { (result ≡ 3 * min room (n / 3)) × (result ≤ n) }
 {
-    3 * lesser(room, n / 3)
+    3 * room.min(n / 3)
 }
 
 // The room that word k says, the last of the line; that of a whole store where there is no such word.
-pub fn read_room(line: &[u8], k: usize) -> Number
+#[tactic(auto, unfolding(crate::specs::Words::room_of))]
+pub fn read_room(line: &[u8], k: usize) -> Option<usize>
     ensures { result ≡ room_of line.now k }
 {
     let rest = words_from(line, k);
-    if rest.len() == 0 {
-        return Number {
-            is: whole() as u64,
-            good: true,
-        };
+    if rest.is_empty() {
+        return Some(whole());
     }
-    decimal_alone(rest)
+    let n = decimal_alone(rest)?;
+    Some(n as usize)
 }
 
-// Bytes in hex as they are read: how many there are, the digit that waits for its second (16: none), and whether all is well.
+// Bytes in hex as they are read: how many there are, and the digit that waits for its second.
 #[derive(Clone, Copy)]
 pub struct Bytes {
     pub size: usize,
-    pub high: u64,
-    pub good: bool,
+    pub high: Option<u8>,
 }
 
 // One character more, into out.
-fn with_byte(h: Bytes, b: u8, out: &mut [u8]) -> Bytes
-    ensures { record { read = result; out = out.new } ≡ with_byte (record { read = h; out = out.old }) b }
+#[tactic(auto, unfolding(crate::specs::Words::with_byte, crate::specs::Words::with_read, crate::specs::Words::with_digit_of, crate::specs::Words::with_low))]
+fn with_byte(h: Bytes, b: u8, out: &mut [u8]) -> Option<Bytes>
+    ensures { record { read = result; out = out.new } ≡ with_byte (record { read = Some h; out = out.old }) b }
 {
     let size = h.size;
-    let high = h.high;
     if b == b' ' {
-        return h;
+        return Some(h);
     }
-    let d = digit(b);
-    if d < 16 {
-        if 16 <= high {
-            return Bytes {
-                size,
-                high: d,
-                good: h.good,
-            };
-        }
-        if size < out.len() {
-            out[size] = ((high * 16 + d) % 256) as u8;
-            return Bytes {
-                size: size + 1,
-                high: 16,
-                good: h.good,
-            };
-        }
+    let low = digit(b)?;
+    let Some(high) = h.high else {
+        return Some(Bytes {
+            size,
+            high: Some(low),
+        });
+    };
+    if out.len() <= size {
+        return None;
     }
-    Bytes {
-        size,
-        high,
-        good: false,
-    }
+    out[size] = high.wrapping_mul(16).wrapping_add(low);
+    Some(Bytes {
+        size: size + 1,
+        high: None,
+    })
 }
 
-// The bytes that words say in hex, two digits to a byte, blanks between where one likes.
-pub fn read_bytes(words: &[u8], out: &mut [u8]) -> Bytes
-    ensures { record { read = result; out = out.new } ≡ hex_of words.now out.old }
+// The bytes that words say in hex, two digits to a byte, blanks between where one likes: how many they are.
+#[tactic(auto, unfolding(crate::specs::Words::hex_of, crate::specs::Words::read_of, crate::specs::Words::whole))]
+pub fn read_bytes(words: &[u8], out: &mut [u8]) -> Option<usize>
+    ensures { record { size = result; out = out.new } ≡ hex_of words.now out.old }
 {
     let mut h = Bytes {
         size: 0,
-        high: 16,
-        good: true,
+        high: None,
     };
-    let mut i = 0;
-    while i < words.len() {
-        h = with_byte(h, words[i], out);
-        i += 1;
+    for b in words {
+        h = with_byte(h, *b, out)?;
     }
-    Bytes {
-        size: h.size,
-        high: h.high,
-        good: h.good & (h.high == 16),
+    if h.high.is_some() {
+        return None;
     }
+    Some(h.size)
 }

@@ -1,5 +1,5 @@
 -- The entries whose contract is an equation: in states that agree they answer the same and leave states that agree.
-use Rattle.std.specs.Prelude.{if◌then◌else◌}
+use Rattle.std.specs.Prelude.{if◌then◌else◌, Err, Ok, Result}
 use mathlib.Core.Path.{◌≡◌, refl, ap}
 use mathlib.Core.Bool.{Bool, true, false, ◌&&◌}
 use mathlib.Core.List.{List, [], ◌∷◌}
@@ -12,10 +12,6 @@ use Rattle.model.specs.declared.Vm.{Vm}
 use Rattle.model.specs.declared.Value.{Value}
 use Rattle.model.specs.declared.Value.TheVariants as v
 use Rattle.model.specs.declared.Frame.{Frame}
-use Rattle.model.specs.declared.Emitted.{Emitted}
-use Rattle.model.specs.declared.Emitted.TheVariants as e
-use Rattle.model.specs.declared.Loaded.{Loaded}
-use Rattle.model.specs.declared.Loaded.TheVariants as ld
 use Rattle.model.specs.Values.{if_list, if_struct, places}
 use Rattle.model.specs.Heap.{heap_of, head_in, placed_below}
 use Rattle.model.specs.Stores.{Stores, functions_from}
@@ -32,6 +28,8 @@ use Rattle.demands.specs.Agree.{Alike, LentAlike, Agree}
 use Rattle.demands.proofs.Fronts.{front_of, places_alike, value_alike, shown_alike, heap_to, heap_alike, frames_alike, innermost_alike, callers_alike}
 use Rattle.demands.proofs.Agreeing.{order_alike}
 use Rattle.demands.proofs.Setting.{set_by, set_is}
+use Rattle.model.specs.declared.Counts.{Counts}
+use Rattle.model.specs.declared.Refusal.{Refusal}
 
 -- what two calls answer and leave agrees
 pub record DoneAlike (a b : Done) : Type 0 where
@@ -66,9 +64,9 @@ module _ (m : Vm) (s : Stores) {l l' : Lent} (k : LentAlike m l l') where
 
   -- ---- emission
 
-  counted_alike : (a : Emitted) → LentAlike (counted m a) l l'
-  counted_alike (e.Done c n) = record { stack = k.stack; cells = k.cells; frames = k.frames; copy = k.copy; backtrace = k.backtrace }
-  counted_alike (e.Refused n) = k
+  counted_alike : (a : Result (Counts × ℕ) Refusal) → LentAlike (counted m a) l l'
+  counted_alike (Ok (c, n)) = record { stack = k.stack; cells = k.cells; frames = k.frames; copy = k.copy; backtrace = k.backtrace }
+  counted_alike (Err e) = k
 
   emits_alike : (x : Res) → DoneAlike (emits (here l) x) (emits (here l') x)
   unfolding emits
@@ -90,12 +88,12 @@ module _ (m : Vm) (s : Stores) {l l' : Lent} (k : LentAlike m l l') where
   frames_too : {fs fs' : List Frame} → Alike m.frames fs fs' → LentAlike m (with_frames fs l) (with_frames fs' l')
   frames_too f = record { stack = k.stack; cells = k.cells; frames = f; copy = k.copy; backtrace = k.backtrace }
 
-  start_alike : (a : Loaded) (s' : Stores) (fs fs' : List Frame) → Alike m.frames fs fs' → DoneAlike (starts (here l) (start_with a s' s fs)) (starts (here l') (start_with a s' s fs'))
+  start_alike : (a : Result Counts Refusal) (s' : Stores) (fs fs' : List Frame) → Alike m.frames fs fs' → DoneAlike (starts (here l) (start_with a s' s fs)) (starts (here l') (start_with a s' s fs'))
   unfolding starts start_with fresh
-  start_alike (ld.Done c) s' [] [] f = record { answer = refl; agree = record { vm = refl; stores = refl; lent = frames_too f } }
-  start_alike (ld.Done c) s' [] (r ∷ rs) f = absurd (let z : ⊥ = omega (arith, f.room) in z)
-  start_alike (ld.Done c) s' (r ∷ rs) [] f = absurd (let z : ⊥ = omega (arith, f.room) in z)
-  start_alike (ld.Done c) s' (r ∷ rs) (q ∷ qs) f = record {
+  start_alike (Ok c) s' [] [] f = record { answer = refl; agree = record { vm = refl; stores = refl; lent = frames_too f } }
+  start_alike (Ok c) s' [] (r ∷ rs) f = absurd (let z : ⊥ = omega (arith, f.room) in z)
+  start_alike (Ok c) s' (r ∷ rs) [] f = absurd (let z : ⊥ = omega (arith, f.room) in z)
+  start_alike (Ok c) s' (r ∷ rs) (q ∷ qs) f = record {
     answer = refl;
     agree = record {
       vm = refl;
@@ -109,11 +107,10 @@ module _ (m : Vm) (s : Stores) {l l' : Lent} (k : LentAlike m l l') where
       };
     };
   }
-  start_alike (ld.Broken i) s' fs fs' f = record { answer = refl; agree = record { vm = refl; stores = refl; lent = frames_too f } }
-  start_alike (ld.Refused n) s' fs fs' f = record { answer = refl; agree = record { vm = refl; stores = refl; lent = frames_too f } }
+  start_alike (Err e) s' fs fs' f = record { answer = refl; agree = record { vm = refl; stores = refl; lent = frames_too f } }
 
   -- unless a run is under way
-  unless_alike : (running : Bool) (a : Loaded) (s' : Stores)
+  unless_alike : (running : Bool) (a : Result Counts Refusal) (s' : Stores)
       → DoneAlike (starts (here l) (unless_running running s l.frames (start_with a s' s l.frames))) (starts (here l') (unless_running running s l'.frames (start_with a s' s l'.frames)))
   unfolding unless_running starts
   unless_alike true a s' = record { answer = refl; agree = record { vm = refl; stores = refl; lent = frames_too k.frames } }

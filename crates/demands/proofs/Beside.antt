@@ -1,5 +1,5 @@
 -- Two stores with one program, wherever its texts lie: emission answers the same and leaves such stores again.
-use Rattle.std.specs.Prelude.{if◌then◌else◌}
+use Rattle.std.specs.Prelude.{if◌then◌else◌, Ok}
 use mathlib.Core.Path.{◌≡◌, refl, sym, ap, ◌∙◌}
 use mathlib.Core.Bool.{Bool, true, false}
 use mathlib.Core.List.{List, map}
@@ -13,7 +13,6 @@ use Rattle.model.specs.declared.Vm.{Vm}
 use Rattle.model.specs.declared.Frame.{Frame}
 use Rattle.model.specs.declared.Constant.{Constant}
 use Rattle.model.specs.declared.Constant.TheVariants as k
-use Rattle.model.specs.declared.Emitted.TheVariants.{Done}
 use Rattle.model.specs.Values.{places, put_words}
 use Rattle.model.specs.Programs.{Program, Function, function_at, code_limit, constant_limit, name_limit}
 use Rattle.model.specs.Stores.{Stores, with_constants, with_structs, with_functions, with_text, size, code_word, code_end, code_here, places_here, with_code, structs_from, function_in, functions_from, program_in}
@@ -31,6 +30,8 @@ use Rattle.laws_runs.proofs.Programs.{parts_of_lem, code_size}
 use Rattle.laws_names.proofs.Putting.{length_put}
 use Rattle.demands.specs.Meant.{AsLong}
 use Rattle.demands.proofs.Fronts.{places_alike}
+use Rattle.model.specs.declared.Refusal.{Refusal}
+use Rattle.model.specs.declared.Refusal.TheVariants as why
 
 -- ---- two results
 
@@ -43,7 +44,7 @@ pub record SameRes (x x' : Res) : Type 0 where
 pub record AlikeRes (x x' : Res) : Type 0 where
   pub answer : x'.answer ≡ x.answer
   pub rooms : AsLong x'.stores x.stores
-  pub program : (d : Counts) (i : ℕ) → x.answer ≡ Done d i → program_in d x'.stores ≡ program_in d x.stores
+  pub program : (d : Counts) (i : ℕ) → x.answer ≡ Ok (d, i) → program_in d x'.stores ≡ program_in d x.stores
 
 pub same_if : (b : Bool) {x x' y y' : Res} → SameRes x x' → SameRes y y' → SameRes (if b then x else y) (if b then x' else y')
 same_if true p q = p
@@ -130,8 +131,8 @@ module _ {c : Counts} {s s' : Stores} (one : OneProgram c s s') where
   g' : Good c s'
   g' = good_of c s' one.ok'
 
-  refused : (n : ℕ) → SameRes (refuse n s) (refuse n s')
-  refused n = record { answer = refl; rooms = one.long }
+  refused : (e : Refusal) → SameRes (refuse e s) (refuse e s')
+  refused e = record { answer = refl; rooms = one.long }
 
   pub functions_same : functions_from c.functions 0 s' ≡ functions_from c.functions 0 s
   unfolding program_in
@@ -227,9 +228,9 @@ module _ {c : Counts} {s s' : Stores} (one : OneProgram c s s') where
   unfolding emit_of emit_in code_order
   emit_res running op bytes place =
       rw (g.counts, g.functions, g.codes, g.places, g'.functions, g'.codes, g'.places, size_here_lem, code_room_lem, end_here_lem)
-      (same_if running (refused 25)
-      (same_if (ltb code_limit (size_here c s + length bytes)) (refused 22)
-      (same_if (ltb (code_room c s) (end_here c s + length bytes)) (refused 21) (same_if (leb 38 op) (refused 1) (appended_same bytes place)))))
+      (same_if running (refused why.RunUnderWay)
+      (same_if (ltb code_limit (size_here c s + length bytes)) (refused why.OverLimit)
+      (same_if (ltb (code_room c s) (end_here c s + length bytes)) (refused why.StoreFull) (same_if (leb 38 op) (refused why.UnknownOpcode) (appended_same bytes place)))))
 
   pub emit_alike : (running : Bool) (op : ℕ) (bytes : List ℕ) (place : ℕ) → AlikeRes (emit_of running c op bytes place s) (emit_of running c op bytes place s')
   emit_alike running op bytes place =
@@ -243,7 +244,7 @@ module _ {c : Counts} {s s' : Stores} (one : OneProgram c s s') where
   unfolding patch_of patch_order
   patch_res running at a =
       rw (g.counts, g.functions, g.codes, g'.functions, g'.codes, size_here_lem)
-      (same_if running (refused 25) (same_if (ltb (size_here c s) (at + 2)) (refused 23) (patched_same at a)))
+      (same_if running (refused why.RunUnderWay) (same_if (ltb (size_here c s) (at + 2)) (refused why.PatchOutsideCode) (patched_same at a)))
 
   pub patch_alike : (running : Bool) (at a : ℕ) → AlikeRes (patch_of running c at a s) (patch_of running c at a s')
   patch_alike running at a = alike_res (patch_res running at a) (patch_reads running c at a s one.ok) (patch_reads running c at a s' one.ok') (rw one.same)
@@ -256,7 +257,7 @@ module _ {c : Counts} {s s' : Stores} (one : OneProgram c s s') where
   unfolding with_text_constant
   text_constant kind lent = rw (text_room_lem (length lent)) (same_if (text_room c s (length lent))
       (both_done (one_constant (length lent) c) c.constants (constants_long (more_text lent) _ _ (words_long _ _ _ _ _ _ _ _ one.long.constants)))
-      (refused 21))
+      (refused why.StoreFull))
 
   plain_constant : (kind payload : ℕ) → SameRes (with_constant c kind payload s) (with_constant c kind payload s')
   unfolding with_constant
@@ -273,8 +274,8 @@ module _ {c : Counts} {s s' : Stores} (one : OneProgram c s s') where
   unfolding add_constant_of constant_order
   constant_res running x lent =
       rw (g.counts, g.text, g.constants, g'.text, g'.constants, places_alike s'.constants s.constants one.long.constants 2)
-      (same_if running (refused 25)
-      (same_if (leb constant_limit c.constants) (refused 22) (same_if (leb (places 2 s.constants) c.constants) (refused 21) (constant_by x lent))))
+      (same_if running (refused why.RunUnderWay)
+      (same_if (leb constant_limit c.constants) (refused why.OverLimit) (same_if (leb (places 2 s.constants) c.constants) (refused why.StoreFull) (constant_by x lent))))
 
   pub constant_alike : (running : Bool) (x : Constant) (lent : List ℕ) → AlikeRes (add_constant_of running c x lent s) (add_constant_of running c x lent s')
   constant_alike running x lent =
@@ -290,12 +291,12 @@ module _ {c : Counts} {s s' : Stores} (one : OneProgram c s s') where
   struct_by name (some i) = both_done c i one.long
   struct_by name none =
       rw (text_room_lem (length name), places_alike s'.structs s.structs one.long.structs 2)
-      (same_if (leb name_limit c.structs) (refused 22) (same_if (leb (places 2 s.structs) c.structs) (refused 21) (same_if (text_room c s (length name))
-      (both_done (one_struct (length name) c) c.structs (structs_long (more_text name) _ _ (name_long name))) (refused 21))))
+      (same_if (leb name_limit c.structs) (refused why.OverLimit) (same_if (leb (places 2 s.structs) c.structs) (refused why.StoreFull) (same_if (text_room c s (length name))
+      (both_done (one_struct (length name) c) c.structs (structs_long (more_text name) _ _ (name_long name))) (refused why.StoreFull))))
 
   struct_res : (running : Bool) (name : List ℕ) → SameRes (add_struct_of running c name s) (add_struct_of running c name s')
   unfolding add_struct_of struct_order struct_names
-  struct_res running name = rw (g.counts, g.text, g.structs, g'.text, g'.structs, structs_same) (same_if running (refused 25) (struct_by name _))
+  struct_res running name = rw (g.counts, g.text, g.structs, g'.text, g'.structs, structs_same) (same_if running (refused why.RunUnderWay) (struct_by name _))
 
   pub struct_alike : (running : Bool) (name : List ℕ) → AlikeRes (add_struct_of running c name s) (add_struct_of running c name s')
   struct_alike running name = alike_res (struct_res running name) (struct_reads running c name s one.ok) (struct_reads running c name s' one.ok') (rw one.same)
@@ -308,8 +309,8 @@ module _ {c : Counts} {s s' : Stores} (one : OneProgram c s s') where
   unfolding begin_function_of function_order
   begin_res running name =
       rw (g.counts, g.text, g.functions, g.main, g'.text, g'.functions, g'.main, text_room_lem (length name), places_alike s'.functions s.functions one.long.functions 2)
-      (same_if running (refused 25)
-      (same_if (leb name_limit c.functions) (refused 22) (same_if (leb (places 2 s.functions) c.functions) (refused 21) (same_if (text_room c s (length name)) (begun_same name) (refused 21)))))
+      (same_if running (refused why.RunUnderWay)
+      (same_if (leb name_limit c.functions) (refused why.OverLimit) (same_if (leb (places 2 s.functions) c.functions) (refused why.StoreFull) (same_if (text_room c s (length name)) (begun_same name) (refused why.StoreFull)))))
 
   pub begin_alike : (running : Bool) (name : List ℕ) → AlikeRes (begin_function_of running c name s) (begin_function_of running c name s')
   begin_alike running name = alike_res (begin_res running name) (begin_reads running c name s one.ok) (begin_reads running c name s' one.ok') (rw one.same)

@@ -1,5 +1,5 @@
 -- Code stays bytes, whatever calls come; so does good order (`fine_kept`).
-use Rattle.std.specs.Prelude.{if◌then◌else◌}
+use Rattle.std.specs.Prelude.{if◌then◌else◌, Err, Ok, Result}
 use mathlib.Core.Path.{◌≡◌, refl, sym, subst}
 use mathlib.Core.Bool.{Bool, true, false, ◌&&◌}
 use mathlib.Core.List.{List, [], ◌∷◌, ◌++◌}
@@ -14,8 +14,6 @@ use Rattle.model.specs.declared.Counts.{Counts}
 use Rattle.model.specs.declared.Constant.{Constant}
 use Rattle.model.specs.declared.Constant.TheVariants as k
 use Rattle.model.specs.declared.Frame.{Frame}
-use Rattle.model.specs.declared.Loaded.{Loaded}
-use Rattle.model.specs.declared.Loaded.TheVariants as ld
 use Rattle.model.specs.Numbers.{Bytes, digits}
 use Rattle.model.specs.Values.{places}
 use Rattle.model.specs.Programs.{Program, Function, function_at, code_limit, constant_limit, name_limit, within_limits}
@@ -33,6 +31,8 @@ use Rattle.demands.specs.Host.{Held, Ask, new, load, add_op, add_op1, add_op2, a
 use Rattle.demands.specs.Jobs.{job_of, Below, Typed, AllTyped}
 use Rattle.demands.specs.Meant.{Fine}
 use Rattle.demands.proofs.Orderly.{order_kept}
+use Rattle.model.specs.declared.Refusal.{Refusal}
+use Rattle.model.specs.declared.Refusal.TheVariants as why
 
 -- ---- a store of bytes
 
@@ -82,8 +82,8 @@ module _ (c : Counts) (s : Stores) (b : CodeBytes s) where
   unfolding with_code
   with_code_lem m p h = either_way (eqb c.current 0) (λ t. rw t (record { main = h; other = b.other })) (λ f. rw f (record { main = b.main; other = h }))
 
-  stays : (n : ℕ) → Coded (refuse n s)
-  stays n = record { code = b }
+  stays : (e : Refusal) → Coded (refuse e s)
+  stays e = record { code = b }
 
   -- other stores than those of the code
   same_code : (d : Counts) (n : ℕ) (t : Stores) → t.main ≡ s.main → t.other ≡ s.other → Coded (e.done d n t)
@@ -99,9 +99,9 @@ module _ (c : Counts) (s : Stores) (b : CodeBytes s) where
   pub emit_bytes : (running : Bool) (op : ℕ) (rest : List ℕ) (place : ℕ) → Bytes rest → Coded (emit_of running c op (op ∷ rest) place s)
   unfolding emit_of emit_in
   emit_bytes running op rest place h =
-      code_if (code_order c s) (code_if running (stays 25) (λ _. code_if (ltb code_limit (size_here c s + length (op ∷ rest))) (stays 22) (λ _.
-      code_if (ltb (code_room c s) (end_here c s + length (op ∷ rest))) (stays 21) (λ _.
-      code_if (leb 38 op) (stays 1) (λ f. appended_bytes (op ∷ rest) place (unfold Bytes in (omega (arith, leb-false 38 op f), h))))))) (λ _. stays 19)
+      code_if (code_order c s) (code_if running (stays why.RunUnderWay) (λ _. code_if (ltb code_limit (size_here c s + length (op ∷ rest))) (stays why.OverLimit) (λ _.
+      code_if (ltb (code_room c s) (end_here c s + length (op ∷ rest))) (stays why.StoreFull) (λ _.
+      code_if (leb 38 op) (stays why.UnknownOpcode) (λ f. appended_bytes (op ∷ rest) place (unfold Bytes in (omega (arith, leb-false 38 op f), h))))))) (λ _. stays why.NotInOrder)
 
   patched_bytes : (at a : ℕ) → a < 65536 → Coded (patched c at a s)
   unfolding patched
@@ -109,31 +109,31 @@ module _ (c : Counts) (s : Stores) (b : CodeBytes s) where
 
   pub patch_bytes : (running : Bool) (at a : ℕ) → a < 65536 → Coded (patch_of running c at a s)
   unfolding patch_of
-  patch_bytes running at a h = code_if (patch_order c s) (code_if running (stays 25) (λ _. code_if (ltb (size_here c s) (at + 2)) (stays 23) (λ _. patched_bytes at a h))) (λ _. stays 19)
+  patch_bytes running at a h = code_if (patch_order c s) (code_if running (stays why.RunUnderWay) (λ _. code_if (ltb (size_here c s) (at + 2)) (stays why.PatchOutsideCode) (λ _. patched_bytes at a h))) (λ _. stays why.NotInOrder)
 
   constant_by : (x : Constant) (lent : List ℕ) → Coded (constant_added c x lent s)
   unfolding constant_added with_constant with_text_constant
   constant_by (k.Scalar w) lent = same_code _ _ _ refl refl
   constant_by (k.Boolean x) lent = same_code _ _ _ refl refl
-  constant_by k.String lent = code_if (text_room c s (length lent)) (same_code _ _ _ refl refl) (λ _. stays 21)
-  constant_by k.FunctionReference lent = code_if (text_room c s (length lent)) (same_code _ _ _ refl refl) (λ _. stays 21)
+  constant_by k.String lent = code_if (text_room c s (length lent)) (same_code _ _ _ refl refl) (λ _. stays why.StoreFull)
+  constant_by k.FunctionReference lent = code_if (text_room c s (length lent)) (same_code _ _ _ refl refl) (λ _. stays why.StoreFull)
 
   pub constant_bytes : (running : Bool) (x : Constant) (lent : List ℕ) → Coded (add_constant_of running c x lent s)
   unfolding add_constant_of
   constant_bytes running x lent =
-      code_if (constant_order c s) (code_if running (stays 25) (λ _. code_if (leb constant_limit c.constants) (stays 22)
-      (λ _. code_if (leb (places 2 s.constants) c.constants) (stays 21) (λ _. constant_by x lent)))) (λ _. stays 19)
+      code_if (constant_order c s) (code_if running (stays why.RunUnderWay) (λ _. code_if (leb constant_limit c.constants) (stays why.OverLimit)
+      (λ _. code_if (leb (places 2 s.constants) c.constants) (stays why.StoreFull) (λ _. constant_by x lent)))) (λ _. stays why.NotInOrder)
 
   struct_by : (name : List ℕ) (x : Option ℕ) → Coded (struct_found c name s x)
   unfolding struct_found struct_added
   struct_by name (some i) = same_code _ _ _ refl refl
   struct_by name none =
-      code_if (leb name_limit c.structs) (stays 22) (λ _. code_if (leb (places 2 s.structs) c.structs) (stays 21)
-      (λ _. code_if (text_room c s (length name)) (same_code _ _ _ refl refl) (λ _. stays 21)))
+      code_if (leb name_limit c.structs) (stays why.OverLimit) (λ _. code_if (leb (places 2 s.structs) c.structs) (stays why.StoreFull)
+      (λ _. code_if (text_room c s (length name)) (same_code _ _ _ refl refl) (λ _. stays why.StoreFull)))
 
   pub struct_bytes : (running : Bool) (name : List ℕ) → Coded (add_struct_of running c name s)
   unfolding add_struct_of
-  struct_bytes running name = code_if (struct_order c s) (code_if running (stays 25) (λ _. struct_by name _)) (λ _. stays 19)
+  struct_bytes running name = code_if (struct_order c s) (code_if running (stays why.RunUnderWay) (λ _. struct_by name _)) (λ _. stays why.NotInOrder)
 
   begun_bytes : (name : List ℕ) → Coded (begun c name s)
   unfolding begun
@@ -142,14 +142,14 @@ module _ (c : Counts) (s : Stores) (b : CodeBytes s) where
   pub begin_bytes : (running : Bool) (name : List ℕ) → Coded (begin_function_of running c name s)
   unfolding begin_function_of
   begin_bytes running name =
-      code_if (function_order c s) (code_if running (stays 25) (λ _. code_if (leb name_limit c.functions) (stays 22) (λ _. code_if (leb (places 2 s.functions) c.functions) (stays 21) (λ _.
-      code_if (text_room c s (length name)) (begun_bytes name) (λ _. stays 21))))) (λ _. stays 19)
+      code_if (function_order c s) (code_if running (stays why.RunUnderWay) (λ _. code_if (leb name_limit c.functions) (stays why.OverLimit) (λ _. code_if (leb (places 2 s.functions) c.functions) (stays why.StoreFull) (λ _.
+      code_if (text_room c s (length name)) (begun_bytes name) (λ _. stays why.StoreFull))))) (λ _. stays why.NotInOrder)
 
 -- ---- a program made anew, or loaded
 
 pub new_bytes : (s : Stores) → CodeBytes s → CodeBytes (new_of s).stores
 unfolding new_of
-new_bytes s b = (code_if (leb 6 (places 1 s.text) && leb 1 (places 2 s.functions)) (same_code (counts 0 0 1 6 0) s b _ _ _ refl refl) (λ _. stays (counts 0 0 1 6 0) s b 21)).code
+new_bytes s b = (code_if (leb 6 (places 1 s.text) && leb 1 (places 2 s.functions)) (same_code (counts 0 0 1 6 0) s b _ _ _ refl refl) (λ _. stays (counts 0 0 1 6 0) s b why.StoreFull)).code
 
 codes_bytes : (fs : List Function) → Bytes (joined function_image fs) → Bytes (function_at fs 0).code × Bytes (joined (λ f. f.code) (drop 1 fs)) × Bytes (joined (λ f. f.code) fs)
 unfolding joined function_image function_at
@@ -173,10 +173,10 @@ judged_bytes (broken i) s h b = b
 judged_bytes (fine p) s h b = by (within_limits p) (room_for p s)
   where
     by : (x y : Bool)
-        → (let z : LoadRes = if x then (if y then record { answer = ld.Done (counts_for p); stores = laid p s } else record {
-          answer = ld.Refused 21;
+        → (let z : LoadRes = if x then (if y then record { answer = Ok (counts_for p); stores = laid p s } else record {
+          answer = Err why.StoreFull;
           stores = s;
-        }) else record { answer = ld.Refused 22; stores = s } in
+        }) else record { answer = Err why.OverLimit; stores = s } in
         CodeBytes z.stores)
     by true true = laid_bytes p s (h p refl) b
     by true false = b
@@ -188,12 +188,11 @@ load_bytes image s h b = judged_bytes (judge image) s (λ p e. subst Bytes (imag
 
 -- ---- the calls
 
-started_bytes : (a : Loaded) (t s : Stores) (fs : List Frame) → CodeBytes t → CodeBytes s → CodeBytes (start_with a t s fs).stores
+started_bytes : (a : Result Counts Refusal) (t s : Stores) (fs : List Frame) → CodeBytes t → CodeBytes s → CodeBytes (start_with a t s fs).stores
 unfolding start_with
-started_bytes (ld.Done c) t s [] b k = k
-started_bytes (ld.Done c) t s (f ∷ fs) b k = b
-started_bytes (ld.Broken i) t s fs b k = k
-started_bytes (ld.Refused n) t s fs b k = k
+started_bytes (Ok c) t s [] b k = k
+started_bytes (Ok c) t s (f ∷ fs) b k = b
+started_bytes (Err e) t s fs b k = k
 
 unless_bytes : (running : Bool) (s : Stores) (fs : List Frame) (x : StartRes) → CodeBytes s → CodeBytes x.stores → CodeBytes (unless_running running s fs x).stores
 unfolding unless_running

@@ -8,7 +8,6 @@ use native.Mathlib.Omega.{arith}
 use lib.ListN.{get_or}
 use Rattle.model.specs.declared.Run.{Run}
 use Rattle.model.specs.declared.Value.TheVariants as v
-use Rattle.model.specs.declared.Last.TheVariants.{Is}
 use Rattle.model.specs.Basics.{ascii, every_from}
 use Rattle.model.specs.Values.{places, value_of, kind_at, payload_at, value_at, vals, values_from, exact_value, text_at}
 use Rattle.model.specs.Heap as hp
@@ -25,6 +24,7 @@ use Rattle.demands.specs.Host.{Held, Call, Answer, Chain}
 use Rattle.demands.specs.Jobs.{anew, AllTyped}
 use Rattle.demands.specs.Meant.{Fine, AlikeHeld, said}
 use Rattle.demands.proofs.MeantChains.{chain_alike}
+use Rattle.std.specs.Prelude.{Some}
 
 -- a run of a machine with n cells that was given two units and has spent none; one value is saved
 abbrev paused : ℕ → Run
@@ -33,7 +33,7 @@ paused n = record { on = true; given = 2; spent = 0; returns = 0; mark = n; save
 -- `<main>` with one byte of code, and the string "ab", which lies at i of the text; `<main>` lies at j
 abbrev holds : List ℕ → ℕ → ℕ → List ℕ → ℕ → ℕ → Held
 holds text i j cells n p = record {
-  vm = record { program = counts 1 0 1 8 0; stack = 1; frames = 1; cells = n; last = Is (v.List p); run = paused n; strict = true };
+  vm = record { program = counts 1 0 1 8 0; stack = 1; frames = 1; cells = n; last = Some (v.List p); run = paused n; strict = true };
   stores = record {
     constants = 2 ∷ st.pack i 2 ∷ [];
     structs = [];

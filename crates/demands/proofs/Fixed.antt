@@ -10,7 +10,6 @@ use lib.ListN.{length, get_or, take, length-take, length-reverse}
 use lib.Seq.{get_or-take, ext_get_or, length-take-le, take-suc}
 use Rattle.model.specs.declared.Vm.{Vm}
 use Rattle.model.specs.declared.Frame.{Frame}
-use Rattle.model.specs.declared.Last.TheVariants.{Nothing}
 use Rattle.model.specs.declared.Value.{Value}
 use Rattle.model.specs.declared.Value.TheVariants as v
 use Rattle.model.specs.Values.{places, most_places, kind, payload, kind_at, payload_at, value_at, vals, exact_value}
@@ -27,6 +26,7 @@ use Rattle.image_load.proofs.Loads.{two_words}
 use Rattle.laws_runs.specs.Ordered.{Exact}
 use Rattle.laws_runs.proofs.Ordered.{order_of_lem, order_sane, order_exact, idle_of, under_of_lem, slots_of, stack_of}
 use Rattle.demands.specs.Agree.{Alike, Rooms, LentAlike}
+use Rattle.std.specs.Prelude.{None}
 
 -- ---- words
 
@@ -147,7 +147,7 @@ unfolding under_in machine_in
 machine_under m m' l l' e = ap (λ (r : Under). machine_of r.state) e
 
 abbrev resting : Machine → Under
-resting x = record { given = 0; start = []; progress = record { answer = Nothing; returns = 0; heap = []; last = x.last }; state = state_of x 0 0 }
+resting x = record { given = 0; start = []; progress = record { answer = None; returns = 0; heap = []; last = x.last }; state = state_of x 0 0 }
 
 idle_rests : (m : Vm) (l : Lent) → m.run ≡ no_run → under_in m l ≡ resting (machine_in m l)
 unfolding under_in progress_in machine_in vals heap_of cells_from

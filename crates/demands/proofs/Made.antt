@@ -1,5 +1,5 @@
 -- A program that is made anew, or loaded, in stores as long: the same answer, and the same program.
-use Rattle.std.specs.Prelude.{if◌then◌else◌}
+use Rattle.std.specs.Prelude.{if◌then◌else◌, Err, Ok, Result}
 use mathlib.Core.Path.{◌≡◌, refl, sym, ap, ◌∙◌}
 use mathlib.Core.Bool.{Bool, true, false, ◌&&◌}
 use mathlib.Core.List.{List}
@@ -7,8 +7,6 @@ use Prim.Native.Nat.{ℕ}
 use native.Mathlib.Omega.{arith}
 use lib.Dec.{leb}
 use Rattle.model.specs.declared.Counts.{Counts}
-use Rattle.model.specs.declared.Loaded.{Loaded}
-use Rattle.model.specs.declared.Loaded.TheVariants as ld
 use Rattle.model.specs.Numbers.{Bytes}
 use Rattle.model.specs.Values.{places}
 use Rattle.model.specs.Programs.{Program, within_limits}
@@ -23,12 +21,14 @@ use Rattle.demands.specs.Meant.{AsLong}
 use Rattle.demands.proofs.Fronts.{places_alike}
 use Rattle.demands.proofs.Orderly.{loaded_done}
 use Rattle.demands.proofs.Beside.{functions_long, text_long, written_long, SameRes, same_if, both_done, AlikeRes, alike_res}
+use Rattle.model.specs.declared.Refusal.{Refusal}
+use Rattle.model.specs.declared.Refusal.TheVariants as why
 
 -- the same answer; where it is done, stores as long with one program
-pub record AlikeLoaded (a a' : Loaded) (t t' : Stores) : Type 0 where
+pub record AlikeLoaded (a a' : Result Counts Refusal) (t t' : Stores) : Type 0 where
   pub answer : a' ≡ a
   pub rooms : AsLong t' t
-  pub program : (c : Counts) → a ≡ ld.Done c → program_in c t' ≡ program_in c t
+  pub program : (c : Counts) → a ≡ Ok c → program_in c t' ≡ program_in c t
 
 module _ (s s' : Stores) (long : AsLong s' s) where
   -- ---- loading
@@ -63,19 +63,19 @@ module _ (s s' : Stores) (long : AsLong s' s) where
   abbrev Both : LoadRes → LoadRes → Type 0
   Both x x' = AlikeLoaded x.answer x'.answer x.stores x'.stores
 
-  refused_load : (n : ℕ) → Both (record { answer = ld.Refused n; stores = s }) (record { answer = ld.Refused n; stores = s' })
-  refused_load n = record { answer = refl; rooms = long; program = λ c e. absurd (let z : ◌≡◌ {A = ℕ} 0 1 = cc in let y : ⊥ = omega arith in y) }
+  refused_load : (e : Refusal) → Both (record { answer = Err e; stores = s }) (record { answer = Err e; stores = s' })
+  refused_load e = record { answer = refl; rooms = long; program = λ c e. absurd (let z : ◌≡◌ {A = ℕ} 0 1 = cc in let y : ⊥ = omega arith in y) }
 
   fine_by : (p : Program) → Sound p → (a b : Bool) → within_limits p ≡ a → room_for p s ≡ b
-      → Both (if a then (if b then record { answer = ld.Done (counts_for p); stores = laid p s } else record { answer = ld.Refused 21; stores = s }) else record { answer = ld.Refused 22; stores = s })
-      (if a then (if b then record { answer = ld.Done (counts_for p); stores = laid p s' } else record { answer = ld.Refused 21; stores = s' }) else record { answer = ld.Refused 22; stores = s' })
+      → Both (if a then (if b then record { answer = Ok (counts_for p); stores = laid p s } else record { answer = Err why.StoreFull; stores = s }) else record { answer = Err why.OverLimit; stores = s })
+      (if a then (if b then record { answer = Ok (counts_for p); stores = laid p s' } else record { answer = Err why.StoreFull; stores = s' }) else record { answer = Err why.OverLimit; stores = s' })
   fine_by p k true true l r = record {
     answer = refl;
     rooms = laid_long p;
     program = λ c e. let z : counts_for p ≡ c = cc in rw (← z) ((loaded_stands p s' k l (room_same p ∙ r)).1 ∙ sym (loaded_stands p s k l r).1);
   }
-  fine_by p k true false l r = refused_load 21
-  fine_by p k false b l r = refused_load 22
+  fine_by p k true false l r = refused_load why.StoreFull
+  fine_by p k false b l r = refused_load why.OverLimit
 
   judged_alike : (x : Judged) → ((p : Program) → x ≡ fine p → Sound p) → Both (load_judged x s) (load_judged x s')
   unfolding load_judged

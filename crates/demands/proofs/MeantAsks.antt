@@ -1,5 +1,5 @@
 -- The other entries, of two machines that mean the same: they say the same, and leave such machines.
-use Rattle.std.specs.Prelude.{if◌then◌else◌}
+use Rattle.std.specs.Prelude.{if◌then◌else◌, Err, Ok, Option, Result}
 use mathlib.Core.Path.{◌≡◌, refl, sym, ap, subst, ◌∙◌}
 use mathlib.Core.Bool.{Bool, true, false}
 use mathlib.Core.List.{List, [], ◌∷◌, ◌++◌, reverse}
@@ -11,13 +11,7 @@ use lib.ListN.{length, take, drop, take-append-drop}
 use lib.Seq.{take-take}
 use Rattle.model.specs.declared.Value.TheVariants as v
 use Rattle.model.specs.declared.Counts.{Counts}
-use Rattle.model.specs.declared.Last.{Last}
 use Rattle.model.specs.declared.Frame.{Frame}
-use Rattle.model.specs.declared.Emitted.{Emitted}
-use Rattle.model.specs.declared.Emitted.TheVariants as em
-use Rattle.model.specs.declared.Loaded.{Loaded}
-use Rattle.model.specs.declared.Loaded.TheVariants as ld
-use Rattle.model.specs.declared.Shown.TheVariants as w
 use Rattle.model.specs.Values.{places, value_at, vals}
 use Rattle.model.specs.Heap.{Cell, cells_from, heap_of}
 use Rattle.model.specs.Trees.{meaning}
@@ -37,7 +31,7 @@ use Rattle.demands.specs.Host.{Held, Ask, new, load, add_op, add_op1, add_op2, a
 use Rattle.demands.specs.Agree.{Alike}
 use Rattle.demands.specs.Kept.{InOrder, Grew}
 use Rattle.demands.specs.Meant.{world_in, machine_of, Fine, AlikeHeld, value, said_in, says}
-use Rattle.demands.specs.Refusals.{refused_emitted}
+use Rattle.demands.specs.Refusals.{refused_in}
 use Rattle.demands.specs.Jobs.{makes, writes, looks, handed, job_of, is_makes, Typed, AllTyped}
 use Rattle.demands.proofs.Fronts.{places_alike}
 use Rattle.demands.proofs.Fixed.{Standing, stack_fits, standing, split}
@@ -53,17 +47,21 @@ use Rattle.demands.proofs.Bytes.{fine_kept}
 use Rattle.demands.proofs.Beside.{AlikeRes, OneProgram, emit_alike, patch_alike, constant_alike, struct_alike, begin_alike, end_alike, offset_same, index_same, save_same, list_same, trace_same}
 use Rattle.demands.proofs.Made.{AlikeLoaded, new_alike, load_alike}
 use Rattle.demands.proofs.MeantRuns.{AlikeCall, one_program, sane, beside_sane}
+use Rattle.model.specs.declared.Refusal.{Refusal}
+use Rattle.model.specs.declared.Value.{Value}
+use Rattle.model.specs.declared.Refusal.TheVariants as why
+use Rattle.model.specs.Answers.{refusal_number}
 
 -- ---- a value of the stack
 
-stack_told : (k : Held) → InOrder k → (i : ℕ) (b : Bool) → ltb i k.vm.stack ≡ b → stack_value_of k.vm i k.lent.stack ≡ (if b then w.Value (value_at k.lent.stack i) else w.Refused 6)
+stack_told : (k : Held) → InOrder k → (i : ℕ) (b : Bool) → ltb i k.vm.stack ≡ b → stack_value_of k.vm i k.lent.stack ≡ (if b then Ok (value_at k.lent.stack i) else Err why.NoSuchPlace)
 unfolding stack_value_of value_shown
 stack_told k o i true e = rw (le-leb _ _ (stack_fits k.vm k.stores k.lent o.machine), e, (order_exact k.vm k.stores k.lent o.machine).stack i (ltb-true _ _ e))
 stack_told k o i false e = rw (le-leb _ _ (stack_fits k.vm k.stores k.lent o.machine), e)
 
 -- ---- emission: the text grows at its end
 
-text_begins : (k : Held) (c : Counts) (s : Stores) → Grew k.vm.program k.stores c s → Begins (world_in k).text (world_of (counted k.vm (em.Done c 0)) s k.lent).text
+text_begins : (k : Held) (c : Counts) (s : Stores) → Grew k.vm.program k.stores c s → Begins (world_in k).text (world_of (counted k.vm (Ok (c, 0))) s k.lent).text
 unfolding world_of st.world_in
 text_begins k c s g =
     let t = k.vm.program.text in
@@ -80,8 +78,8 @@ left : (q : Ask) (k : Held) → Fine k → Typed (job_of q) → Fine (done q k).
 left q k o t = fine_kept (ask q) (done q k).answer (unfold AllTyped in (t, tt)) refl o
 
 -- a refusal changes nothing
-stays : (q : Ask) (k : Held) (x : Res) → InOrder k → done q k ≡ emits k x → (i : ℕ) → x.answer ≡ em.Refused i → (emits k x).held ≡ k
-stays q k x o e i r = subst (λ (y : Done). y.held ≡ k) e ((ask_says k q).kept i (rw e (refused_is k x i r))).0
+stays : (q : Ask) (k : Held) (x : Res) → InOrder k → done q k ≡ emits k x → (r : Refusal) → x.answer ≡ Err r → (emits k x).held ≡ k
+stays q k x o e r i = subst (λ (y : Done). y.held ≡ k) e ((ask_says k q).kept (refusal_number r) (rw e (refused_is k x r i))).0
 
 abbrev with_frames_lem : Held → List Frame → Held
 with_frames_lem k fs = record { vm = k.vm; stores = k.stores; lent = with_frames fs k.lent }
@@ -97,7 +95,7 @@ fine_made k x o off = subst (λ (b : Bool). Fine (starts k (unless_running b k.s
 
 -- ---- the last result
 
-last_by : {t t' : List ℕ} {H H' : List Cell} {l l' : Last} → AlikeLast t t' H H' l l' → said_in t H (shown (last_shown l)) ≡ said_in t' H' (shown (last_shown l'))
+last_by : {t t' : List ℕ} {H H' : List Cell} {l l' : Option Value} → AlikeLast t t' H H' l l' → said_in t H (shown (last_shown l)) ≡ said_in t' H' (shown (last_shown l'))
 unfolding said_in last_shown
 last_by nothing = refl
 last_by (al.is b) = ap value b
@@ -106,13 +104,13 @@ module _ {r : Bool} {h d : Held} (a : AlikeHeld r h d) where
   abbrev c : Counts
   c = h.vm.program
 
-  emits_by : (x x' : Res) (e : Emitted) → x.answer ≡ e → AlikeRes x x' → Grows c h.stores x → Grows d.vm.program d.stores x'
-      → ((n : Counts) (i : ℕ) → x.answer ≡ em.Done n i → h.vm.run.on ≡ false) → ((i : ℕ) → x.answer ≡ em.Refused i → (emits h x).held ≡ h)
-      → ((i : ℕ) → x'.answer ≡ em.Refused i → (emits d x').held ≡ d) → Fine (emits h x).held → Fine (emits d x').held
+  emits_by : (x x' : Res) (e : Result (Counts × ℕ) Refusal) → x.answer ≡ e → AlikeRes x x' → Grows c h.stores x → Grows d.vm.program d.stores x'
+      → ((n : Counts) (i : ℕ) → x.answer ≡ Ok (n, i) → h.vm.run.on ≡ false) → ((r : Refusal) → x.answer ≡ Err r → (emits h x).held ≡ h)
+      → ((r : Refusal) → x'.answer ≡ Err r → (emits d x').held ≡ d) → Fine (emits h x).held → Fine (emits d x').held
       → AlikeHeld r (emits h x).held (emits d x').held
   unfolding emits machine_in
-  emits_by x x' (em.Done n i) q l g g' idle same same' o o' =
-      let q' : x'.answer ≡ em.Done n i = l.answer ∙ q in
+  emits_by x x' (Ok (n, i)) q l g g' idle same same' o o' =
+      let q' : x'.answer ≡ Ok (n, i) = l.answer ∙ q in
       record {
         counts = rw (q, q');
         program = rw (q, q') (l.program n i q);
@@ -130,7 +128,7 @@ module _ {r : Bool} {h d : Held} (a : AlikeHeld r h d) where
         fine = o;
         beside = o';
       }
-  emits_by x x' (em.Refused i) q l g g' idle same same' o o' = rw (same i q, same' i (l.answer ∙ q)) a
+  emits_by x x' (Err i) q l g g' idle same same' o o' = rw (same i q, same' i (l.answer ∙ q)) a
 
   abbrev Line : Ask → Type 0
   Line q = AlikeCall r (ask q) (done q h).answer (done q h).held (done q d).answer (done q d).held
@@ -140,7 +138,7 @@ module _ {r : Bool} {h d : Held} (a : AlikeHeld r h d) where
   unfolding says
   emits_line q x x' b e one other l g g' = record {
     says = rw (e, one, other) (unfold emits said_in in rw l.answer);
-    held = rw (one, other) (emits_by x x' x.answer refl l g g' (λ n i w. written_idle h q e (rw one (unfold emits in ap refused_emitted w)))
+    held = rw (one, other) (emits_by x x' x.answer refl l g g' (λ n i w. written_idle h q e (rw one (unfold emits in ap refused_in w)))
         (stays q h x a.fine.order one) (stays q d x' a.beside.order other)
         (subst (λ (y : Done). Fine y.held) one (left q h a.fine b)) (subst (λ (y : Done). Fine y.held) other (left q d a.beside b)));
   }
@@ -153,16 +151,16 @@ module _ {r : Bool} {h d : Held} (a : AlikeHeld r h d) where
   unstarted : (fs fs' : List Frame) → h.lent.frames ≡ fs → d.lent.frames ≡ fs' → AlikeHeld r (with_frames_lem h fs) (with_frames_lem d fs')
   unstarted fs fs' p q = rw (← p, ← q) a
 
-  starts_by : (q : Ask) {i : List ℕ} → job_of q ≡ makes i → length d.lent.cells ≡ length h.lent.cells → (x : Loaded) (t t' : Stores)
+  starts_by : (q : Ask) {i : List ℕ} → job_of q ≡ makes i → length d.lent.cells ≡ length h.lent.cells → (x : Result Counts Refusal) (t t' : Stores)
       → AlikeLoaded x x t t' → (fs fs' : List Frame) → h.lent.frames ≡ fs → d.lent.frames ≡ fs'
       → Fine (starts h (start_with x t h.stores fs)).held → Fine (starts d (start_with x t' d.stores fs')).held
       → AlikeCall r (ask q) (starts h (start_with x t h.stores fs)).answer (starts h (start_with x t h.stores fs)).held
       (starts d (start_with x t' d.stores fs')).answer (starts d (start_with x t' d.stores fs')).held
   unfolding starts start_with fresh says said_in
-  starts_by k e long (ld.Done n) t t' l [] [] p q o o' = record { says = rw e; held = unstarted [] [] p q }
-  starts_by k e long (ld.Done n) t t' l [] (r ∷ rs) p q o o' = absurd (let z = frames_same _ _ p q in let y : ⊥ = omega arith in y)
-  starts_by k e long (ld.Done n) t t' l (r ∷ rs) [] p q o o' = absurd (let z = frames_same _ _ p q in let y : ⊥ = omega arith in y)
-  starts_by k e long (ld.Done n) t t' l (r ∷ rs) (r' ∷ rs') p q o o' = record {
+  starts_by k e long (Ok n) t t' l [] [] p q o o' = record { says = rw e; held = unstarted [] [] p q }
+  starts_by k e long (Ok n) t t' l [] (r ∷ rs) p q o o' = absurd (let z = frames_same _ _ p q in let y : ⊥ = omega arith in y)
+  starts_by k e long (Ok n) t t' l (r ∷ rs) [] p q o o' = absurd (let z = frames_same _ _ p q in let y : ⊥ = omega arith in y)
+  starts_by k e long (Ok n) t t' l (r ∷ rs) (r' ∷ rs') p q o o' = record {
     says = rw e;
     held = record {
       counts = refl;
@@ -187,8 +185,7 @@ module _ {r : Bool} {h d : Held} (a : AlikeHeld r h d) where
       beside = o';
     };
   }
-  starts_by k e long (ld.Broken i) t t' l fs fs' p q o o' = record { says = rw e; held = unstarted fs fs' p q }
-  starts_by k e long (ld.Refused i) t t' l fs fs' p q o o' = record { says = rw e; held = unstarted fs fs' p q }
+  starts_by k e long (Err i) t t' l fs fs' p q o o' = record { says = rw e; held = unstarted fs fs' p q }
 
   -- where a run is under way, both are refused
   unless_by : (q : Ask) {i : List ℕ} → job_of q ≡ makes i → (running running' : Bool) → running' ≡ running → (x x' : StartRes)
@@ -201,13 +198,13 @@ module _ {r : Bool} {h d : Held} (a : AlikeHeld r h d) where
   unless_by q e false true s x x' k = not_running s refl
   unless_by q e false false s x x' k = k refl
 
-  abbrev made : Loaded → Stores → StartRes
+  abbrev made : Result Counts Refusal → Stores → StartRes
   made x t = start_with x t h.stores h.lent.frames
 
-  abbrev beside : Loaded → Stores → StartRes
+  abbrev beside : Result Counts Refusal → Stores → StartRes
   beside x t = start_with x t d.stores d.lent.frames
 
-  starts_line : (q : Ask) {i : List ℕ} → job_of q ≡ makes i → length d.lent.cells ≡ length h.lent.cells → {x x' : Loaded} {t t' : Stores} → AlikeLoaded x x' t t'
+  starts_line : (q : Ask) {i : List ℕ} → job_of q ≡ makes i → length d.lent.cells ≡ length h.lent.cells → {x x' : Result Counts Refusal} {t t' : Stores} → AlikeLoaded x x' t t'
       → done q h ≡ starts h (unless_running h.vm.run.on h.stores h.lent.frames (made x t))
       → done q d ≡ starts d (unless_running d.vm.run.on d.stores d.lent.frames (beside x' t'))
       → Typed (job_of q) → Line q

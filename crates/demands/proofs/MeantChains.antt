@@ -1,5 +1,5 @@
 -- Calls one after another: machines that mean the same say the same, whatever the calls.
-use Rattle.std.specs.Prelude.{if◌then◌else◌}
+use Rattle.std.specs.Prelude.{if◌then◌else◌, None, Option, Some}
 use mathlib.Core.Path.{◌≡◌, refl}
 use mathlib.Core.Bool.{Bool, true, false, ◌||◌}
 use mathlib.Core.List.{List, [], ◌∷◌}
@@ -8,8 +8,6 @@ use native.Mathlib.Omega.{arith}
 use lib.Dec.{eqb}
 use Rattle.model.specs.declared.Vm.{Vm}
 use Rattle.model.specs.declared.Value.{Value}
-use Rattle.model.specs.declared.Last.{Last}
-use Rattle.model.specs.declared.Last.TheVariants.{Nothing, Is}
 use Rattle.model.specs.Heap.{Cell}
 use Rattle.model.specs.Steps.{World, State}
 use Rattle.model.specs.Runs.{Machine}
@@ -68,15 +66,15 @@ values_self : (t : List ℕ) (H : List Cell) (xs : List Value) → AlikeValues t
 values_self t H [] = al.none
 values_self t H (x ∷ xs) = al.more refl (values_self t H xs)
 
-last_self : (t : List ℕ) (H : List Cell) (x : Last) → AlikeLast t t H H x x
-last_self t H Nothing = al.nothing
-last_self t H (Is x) = al.is refl
+last_self : (t : List ℕ) (H : List Cell) (x : Option Value) → AlikeLast t t H H x x
+last_self t H None = al.nothing
+last_self t H (Some x) = al.is refl
 
 pub machine_self : (w : World) (m : Machine) → AlikeMachine w (record { text = w.text; constants = w.constants; cell_room = w.cell_room }) m m
 machine_self w m = record { stack = values_self w.text m.heap m.stack; last = last_self w.text m.heap m.last; frame = refl; callers = refl; free = refl }
 
 -- so does a run under way: what it would answer is its last result, if it had a root Return
-answer_self : (returns : ℕ) (s : State) → Answers s s (if eqb returns 0 then Nothing else s.last) (if eqb returns 0 then Nothing else s.last)
+answer_self : (returns : ℕ) (s : State) → Answers s s (if eqb returns 0 then None else s.last) (if eqb returns 0 then None else s.last)
 answer_self returns s = either_way (eqb returns 0) (λ e. rw e (al.not_yet refl refl)) (λ e. rw e (al.latest refl refl))
 
 pub under_self : (w : World) (m : Vm) (l : Lent) → AlikeUnder w (record { text = w.text; constants = w.constants; cell_room = w.cell_room }) (under_in m l) (under_in m l)

@@ -1,5 +1,5 @@
 -- Every call keeps good order.
-use Rattle.std.specs.Prelude.{if◌then◌else◌}
+use Rattle.std.specs.Prelude.{if◌then◌else◌, Err, Ok, Result}
 use mathlib.Core.Path.{◌≡◌, refl, sym, ap, subst, ◌∙◌}
 use mathlib.Core.Bool.{Bool, true, false}
 use mathlib.Core.List.{List, [], ◌∷◌}
@@ -9,12 +9,7 @@ use native.Mathlib.Omega.{arith}
 use lib.Dec.{ltb}
 use Rattle.model.specs.declared.Counts.{Counts}
 use Rattle.model.specs.declared.Frame.{Frame}
-use Rattle.model.specs.declared.Emitted.{Emitted}
-use Rattle.model.specs.declared.Emitted.TheVariants as em
 use Rattle.model.specs.declared.Vm.{Vm}
-use Rattle.model.specs.declared.Started.TheVariants as st
-use Rattle.model.specs.declared.Loaded.{Loaded}
-use Rattle.model.specs.declared.Loaded.TheVariants as ld
 use Rattle.model.specs.Numbers.{Bytes}
 use Rattle.model.specs.Programs.{Program, within_limits}
 use Rattle.model.specs.Images.{Judged, fine, broken, judge, Sound}
@@ -32,7 +27,7 @@ use Rattle.laws_programs.proofs.Growing.{constant_keeps, patch_keeps, end_keeps}
 use Rattle.laws_programs.proofs.Naming.{struct_keeps, new_keeps, begin_keeps}
 use Rattle.demands.specs.Host.{Held, Ask, new, load, add_op, add_op1, add_op2, add_op3, patch, add_constant, add_struct, begin_function, end_function, set_strict, current_offset, function_idx, save, disassemble, backtrace, last_result, stack_value, block_header, element, text_bytes, Call, run, ask, Answer, started, Done, with_frames, emits, starts, changes, looks, done, RanBy, After, Chain, none, more}
 use Rattle.image.proofs.Trip.{image_only, loaded_stands}
-use Rattle.demands.specs.Refusals.{Check, first_of, run_checks, checks, refused_emitted, refused_by}
+use Rattle.demands.specs.Refusals.{Check, first_of, run_checks, checks, refused_in, refused_by}
 use Rattle.demands.specs.Kept.{InOrder}
 use Rattle.demands.specs.Jobs.{job_of, Typed, AllTyped}
 use Rattle.demands.proofs.Setting.{set_by, set_is, order_strictly}
@@ -41,23 +36,26 @@ use Rattle.demands.proofs.Wider.{order_wider}
 use Rattle.demands.proofs.Emitted.{Grows, grows_same, emit_grows, patch_grows, constant_grows, struct_grows, begin_grows}
 use Rattle.demands.proofs.Refusing.{Says, ask_says, refuses}
 use Rattle.demands.proofs.WhileRunning.{kept_while_running}
+use Rattle.model.specs.declared.Refusal.{Refusal}
+use Rattle.model.specs.declared.Refusal.TheVariants as why
+use Rattle.model.specs.Answers.{refusal_number}
 
 -- ---- what is loaded
 
-pub loaded_done : {P : Type 0} (a : Emitted) (c : Counts) → as_loaded a ≡ ld.Done c → ((n : ℕ) → a ≡ em.Done c n → P) → P
+pub loaded_done : {P : Type 0} (a : Result (Counts × ℕ) Refusal) (c : Counts) → as_loaded a ≡ Ok c → ((n : ℕ) → a ≡ Ok (c, n) → P) → P
 unfolding as_loaded
-loaded_done (em.Done d n) c e f = f n (let z : d ≡ c = cc in rw z)
-loaded_done (em.Refused n) c e f = absurd (let z : ◌≡◌ {A = ℕ} 0 1 = cc in let y : ⊥ = omega arith in y)
+loaded_done (Ok (d, n)) c e f = f n (let z : d ≡ c = cc in rw z)
+loaded_done (Err r) c e f = absurd (let z : ◌≡◌ {A = ℕ} 0 1 = cc in let y : ⊥ = omega arith in y)
 
 fine_good : (p : Program) (s : Stores) → Sound p → (a b : Bool) → within_limits p ≡ a → room_for p s ≡ b → (c : Counts)
-    → (let x : LoadRes = if a then (if b then record { answer = ld.Done (counts_for p); stores = laid p s } else record { answer = ld.Refused 21; stores = s })
-    else record { answer = ld.Refused 22; stores = s } in
-    x.answer ≡ ld.Done c → program_ok c x.stores ≡ true)
+    → (let x : LoadRes = if a then (if b then record { answer = Ok (counts_for p); stores = laid p s } else record { answer = Err why.StoreFull; stores = s })
+    else record { answer = Err why.OverLimit; stores = s } in
+    x.answer ≡ Ok c → program_ok c x.stores ≡ true)
 fine_good p s k true true l r c e = let z : counts_for p ≡ c = cc in rw (← z) (loaded_stands p s k l r).0
 fine_good p s k true false l r c e = absurd (let z : ◌≡◌ {A = ℕ} 0 1 = cc in let y : ⊥ = omega arith in y)
 fine_good p s k false b l r c e = absurd (let z : ◌≡◌ {A = ℕ} 0 1 = cc in let y : ⊥ = omega arith in y)
 
-load_good : (x : Judged) (s : Stores) → ((p : Program) → x ≡ fine p → Sound p) → (c : Counts) → (load_judged x s).answer ≡ ld.Done c → program_ok c (load_judged x s).stores ≡ true
+load_good : (x : Judged) (s : Stores) → ((p : Program) → x ≡ fine p → Sound p) → (c : Counts) → (load_judged x s).answer ≡ Ok c → program_ok c (load_judged x s).stores ≡ true
 unfolding load_judged
 load_good (broken i) s k c e = absurd (let z : ◌≡◌ {A = ℕ} 0 1 = cc in let y : ⊥ = omega arith in y)
 load_good (fine p) s k c e = fine_good p s (k p refl) (within_limits p) (room_for p s) refl refl c e
@@ -65,49 +63,48 @@ load_good (fine p) s k c e = fine_good p s (k p refl) (within_limits p) (room_fo
 -- ---- a machine that is made, whatever the host held
 
 module _ (h : Held) where
-  fresh_in_order : (c : Counts) (s' : Stores) (f : Frame) (fs : List Frame) → program_ok c s' ≡ true → InOrder (starts h (start_with (ld.Done c) s' h.stores (f ∷ fs))).held
+  fresh_in_order : (c : Counts) (s' : Stores) (f : Frame) (fs : List Frame) → program_ok c s' ≡ true → InOrder (starts h (start_with (Ok c) s' h.stores (f ∷ fs))).held
   unfolding starts start_with fresh
   fresh_in_order c s' f fs p = record {
     program = p;
     machine = fresh_order (fresh c) s' (with_frames (root 0 ∷ fs) h.lent) p (record { stack = refl; cells = refl; last = refl; frames = refl; run = refl; room = omega arith; frame = refl });
   }
 
-  made : (a : Loaded) (s' : Stores) (fs : List Frame) → ((c : Counts) → a ≡ ld.Done c → program_ok c s' ≡ true) → (m : Vm) → (starts h (start_with a s' h.stores fs)).answer ≡ started (st.Done m)
+  made : (a : Result Counts Refusal) (s' : Stores) (fs : List Frame) → ((c : Counts) → a ≡ Ok c → program_ok c s' ≡ true) → (m : Vm) → (starts h (start_with a s' h.stores fs)).answer ≡ started (Ok m)
       → InOrder (starts h (start_with a s' h.stores fs)).held
   unfolding starts start_with
-  made (ld.Done c) s' [] p m e = absurd (let z : ◌≡◌ {A = ℕ} 0 1 = cc in let y : ⊥ = omega arith in y)
-  made (ld.Done c) s' (f ∷ fs) p m e = fresh_in_order c s' f fs (p c refl)
-  made (ld.Broken i) s' fs p m e = absurd (let z : ◌≡◌ {A = ℕ} 0 1 = cc in let y : ⊥ = omega arith in y)
-  made (ld.Refused n) s' fs p m e = absurd (let z : ◌≡◌ {A = ℕ} 0 1 = cc in let y : ⊥ = omega arith in y)
+  made (Ok c) s' [] p m e = absurd (let z : ◌≡◌ {A = ℕ} 0 1 = cc in let y : ⊥ = omega arith in y)
+  made (Ok c) s' (f ∷ fs) p m e = fresh_in_order c s' f fs (p c refl)
+  made (Err r) s' fs p m e = absurd (let z : ◌≡◌ {A = ℕ} 0 1 = cc in let y : ⊥ = omega arith in y)
 
   -- and a run under way is not made over
-  made_by_lem : (running : Bool) (a : Loaded) (s' : Stores) (fs : List Frame) → ((c : Counts) → a ≡ ld.Done c → program_ok c s' ≡ true) → (m : Vm)
-      → (starts h (unless_running running h.stores fs (start_with a s' h.stores fs))).answer ≡ started (st.Done m)
+  made_by_lem : (running : Bool) (a : Result Counts Refusal) (s' : Stores) (fs : List Frame) → ((c : Counts) → a ≡ Ok c → program_ok c s' ≡ true) → (m : Vm)
+      → (starts h (unless_running running h.stores fs (start_with a s' h.stores fs))).answer ≡ started (Ok m)
       → InOrder (starts h (unless_running running h.stores fs (start_with a s' h.stores fs))).held
   unfolding starts unless_running
   made_by_lem true a s' fs p m e = absurd (let z : ◌≡◌ {A = ℕ} 0 1 = cc in let y : ⊥ = omega arith in y)
   made_by_lem false a s' fs p m e = made a s' fs p m e
 
-  new_stands : (c : Counts) → as_loaded (new_of h.stores).answer ≡ ld.Done c → program_ok c (new_of h.stores).stores ≡ true
+  new_stands : (c : Counts) → as_loaded (new_of h.stores).answer ≡ Ok c → program_ok c (new_of h.stores).stores ≡ true
   new_stands c e = loaded_done (new_of h.stores).answer c e (λ n q. (new_keeps h.stores).kept c n q)
 
-  load_stands : (image : List ℕ) → Bytes image → (c : Counts) → (load_of image h.stores).answer ≡ ld.Done c → program_ok c (load_of image h.stores).stores ≡ true
+  load_stands : (image : List ℕ) → Bytes image → (c : Counts) → (load_of image h.stores).answer ≡ Ok c → program_ok c (load_of image h.stores).stores ≡ true
   unfolding load_of
   load_stands image b = load_good (judge image) h.stores (λ p e. (image_only image p b e).1)
 
   -- a machine that was made is in good order
-  pub new_in_order : {h' : Held} {m : Vm} → After (ask new) h (started (st.Done m)) h' → InOrder h'
+  pub new_in_order : {h' : Held} {m : Vm} → After (ask new) h (started (Ok m)) h' → InOrder h'
   unfolding done new_machine_of
   new_in_order {m = m} p = subst InOrder (ap (λ (d : Done). d.held) p) (made_by_lem h.vm.run.on _ _ h.lent.frames new_stands m (ap (λ (d : Done). d.answer) p))
 
-  pub load_in_order : (image : List ℕ) → Bytes image → {h' : Held} {m : Vm} → After (ask (load image)) h (started (st.Done m)) h' → InOrder h'
+  pub load_in_order : (image : List ℕ) → Bytes image → {h' : Held} {m : Vm} → After (ask (load image)) h (started (Ok m)) h' → InOrder h'
   unfolding done load_machine_of
   load_in_order image b {m = m} p = subst InOrder (ap (λ (d : Done). d.held) p) (made_by_lem h.vm.run.on _ _ h.lent.frames (load_stands image b) m (ap (λ (d : Done). d.answer) p))
 
 -- ---- the end of a function
 
 ends_by : (c d : Counts) (s : Stores) (inOrder running : Bool) → c.text ≤ d.text → c.functions ≤ d.functions
-    → Grows c s (record { answer = if inOrder then (if running then em.Refused 25 else em.Done d 0) else em.Refused 19; stores = s })
+    → Grows c s (record { answer = if inOrder then (if running then Err why.RunUnderWay else Ok (d, 0)) else Err why.NotInOrder; stores = s })
 ends_by c d s true false t f = grows_same c s d 0 s t f refl refl
 ends_by c d s true true t f = record { grown = λ q i e. absurd (let z : ◌≡◌ {A = ℕ} 0 1 = cc in let y : ⊥ = omega arith in y) }
 ends_by c d s false running t f = record { grown = λ q i e. absurd (let z : ◌≡◌ {A = ℕ} 0 1 = cc in let y : ⊥ = omega arith in y) }
@@ -116,34 +113,33 @@ pub end_grows : (running : Bool) (c : Counts) (s : Stores) → Grows c s (record
 unfolding end_function_of
 end_grows running c s = ends_by c (counts c.constants c.structs c.functions c.text 0) s (counts_ok c) running (omega arith) (omega arith)
 
-pub refused_is : (h : Held) (x : Res) (n : ℕ) → x.answer ≡ em.Refused n → refused_by (emits h x).answer ≡ some n
+pub refused_is : (h : Held) (x : Res) (e : Refusal) → x.answer ≡ Err e → refused_by (emits h x).answer ≡ some (refusal_number e)
 unfolding emits
-refused_is h x n e = ap refused_emitted e
+refused_is h x e q = ap refused_in q
 
 -- ---- no run is under way
 
 module _ (h : Held) (o : InOrder h) (off : h.vm.run.on ≡ false) where
   -- ---- emission
 
-  emits_by : (x : Res) (a : Emitted) → x.answer ≡ a → Kept x → Grows h.vm.program h.stores x → ((n : ℕ) → a ≡ em.Refused n → (emits h x).held ≡ h) → InOrder (emits h x).held
+  emits_by : (x : Res) (a : Result (Counts × ℕ) Refusal) → x.answer ≡ a → Kept x → Grows h.vm.program h.stores x → ((e : Refusal) → a ≡ Err e → (emits h x).held ≡ h) → InOrder (emits h x).held
   unfolding emits
-  emits_by x (em.Done c n) q k g same = rw q (record {
+  emits_by x (Ok (c, n)) q k g same = rw q (record {
     program = k.kept c n q;
     machine = order_wider h.vm h.stores h.lent c x.stores o.machine off (k.kept c n q) (g.grown c n q);
   })
-  emits_by x (em.Refused n) q k g same = subst InOrder (sym (same n refl)) o
+  emits_by x (Err e) q k g same = subst InOrder (sym (same e refl)) o
 
   emits_kept : {cs : List Check} (x : Res) → Kept x → Grows h.vm.program h.stores x → Says h cs (emits h x) → InOrder (emits h x).held
-  emits_kept x k g s = emits_by x x.answer refl k g (λ n e. (s.kept n (refused_is h x n e)).0)
+  emits_kept x k g s = emits_by x x.answer refl k g (λ e q. (s.kept (refusal_number e) (refused_is h x e q)).0)
 
   -- ---- a machine that has not run
 
-  start_by : (a : Loaded) (s' : Stores) (fs : List Frame) → h.lent.frames ≡ fs → ((c : Counts) → a ≡ ld.Done c → program_ok c s' ≡ true) → InOrder (starts h (start_with a s' h.stores fs)).held
+  start_by : (a : Result Counts Refusal) (s' : Stores) (fs : List Frame) → h.lent.frames ≡ fs → ((c : Counts) → a ≡ Ok c → program_ok c s' ≡ true) → InOrder (starts h (start_with a s' h.stores fs)).held
   unfolding starts start_with
-  start_by (ld.Done c) s' [] q p = subst InOrder (ap (λ (x : List Frame). record { vm = h.vm; stores = h.stores; lent = with_frames x h.lent }) q) o
-  start_by (ld.Done c) s' (f ∷ fs) q p = fresh_in_order h c s' f fs (p c refl)
-  start_by (ld.Broken i) s' fs q p = subst InOrder (ap (λ (x : List Frame). record { vm = h.vm; stores = h.stores; lent = with_frames x h.lent }) q) o
-  start_by (ld.Refused n) s' fs q p = subst InOrder (ap (λ (x : List Frame). record { vm = h.vm; stores = h.stores; lent = with_frames x h.lent }) q) o
+  start_by (Ok c) s' [] q p = subst InOrder (ap (λ (x : List Frame). record { vm = h.vm; stores = h.stores; lent = with_frames x h.lent }) q) o
+  start_by (Ok c) s' (f ∷ fs) q p = fresh_in_order h c s' f fs (p c refl)
+  start_by (Err e) s' fs q p = subst InOrder (ap (λ (x : List Frame). record { vm = h.vm; stores = h.stores; lent = with_frames x h.lent }) q) o
 
   -- a run under way is not made over
   unless_kept : (running : Bool) (x : StartRes) → InOrder (starts h x).held → InOrder (starts h (unless_running running h.stores h.lent.frames x)).held

@@ -1,5 +1,5 @@
 -- Demand 2: what each step costs, and that a run is its written steps.
-use Rattle.std.specs.Prelude.{if◌then◌else◌}
+use Rattle.std.specs.Prelude.{if◌then◌else◌, Err, Ok, Result}
 use mathlib.Core.Path.{◌≡◌, refl, sym, subst}
 use mathlib.Core.Bool.{Bool, true, false, not, ◌&&◌}
 use mathlib.Core.List.{List, [], ◌∷◌, ◌++◌}
@@ -19,8 +19,6 @@ use Rattle.model.specs.declared.Tally.{Tally}
 use Rattle.model.specs.declared.Frame.{Frame}
 use Rattle.model.specs.declared.Fault.{Fault}
 use Rattle.model.specs.declared.Fault.TheVariants as f
-use Rattle.model.specs.declared.Found.{Found}
-use Rattle.model.specs.declared.Found.TheVariants as g
 use Rattle.model.specs.Values.{popping, popping_scalar, popping_boolean, fault_number}
 use Rattle.model.specs.Scalars.{zero_divisor, result_of}
 use Rattle.model.specs.Heap.{Cell, deepest, block_of, built, unbuilt, build_of, field_of}
@@ -82,10 +80,10 @@ module _ (w : World) (s : State) where
   unfolding pushing
   push_free t x e = if_each Free (ltb (length t.stack) w.stack_room) (λ l. goes e) (λ l. fails e)
 
-  found_free : (x : Found) {j : Value → Outcome} → ((y : Value) → Free (j y) (j y)) → Free (on_found x s j) (on_found x s j)
+  found_free : (x : Result Value Fault) {j : Value → Outcome} → ((y : Value) → Free (j y) (j y)) → Free (on_found x s j) (on_found x s j)
   unfolding on_found
-  found_free (g.Got x) h = h x
-  found_free (g.Bad n) h = fails refl
+  found_free (Ok x) h = h x
+  found_free (Err e) h = fails refl
 
   enter_free : (i n : ℕ) (r : List Value) → Free (enter w i n r s) (enter w i n r s)
   unfolding enter

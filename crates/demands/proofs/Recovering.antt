@@ -5,7 +5,6 @@ use mathlib.Core.List.{List}
 use Prim.Native.Nat.{ℕ, suc, ◌*◌}
 use lib.ListN.{length}
 use Rattle.model.specs.declared.Run.{Run}
-use Rattle.model.specs.declared.Last.{Last}
 use Rattle.model.specs.declared.Tally.{Tally}
 use Rattle.model.specs.Steps.{World, State, returned}
 use Rattle.model.specs.Runs.{Machine, begin, Progress, at_start, Entry, fault, Ran, recovered}
@@ -28,13 +27,15 @@ use Rattle.demands.proofs.Chains.{chains_agree}
 use Rattle.demands.proofs.Parting.{over_is_one}
 use Rattle.demands.proofs.Traces.{a_backtrace_tells_when_its_frames_were_entered}
 use Rattle.demands.proofs.MeantChains.{chain_alike, self_alike}
+use Rattle.std.specs.Prelude.{Option}
+use Rattle.model.specs.declared.Value.{Value}
 
 -- what the mark of a path kept
 kept_since : {w : World} {s t : State} {k : Progress} → Since w (at_start s) s k t → Kept w s t k.last k.heap
 kept_since (d.Since.start p) = start p
 kept_since {w} {s = s} {t = t} (d.Since.return {q = q} {q' = q'} {v = v} p o e z) =
     let x : Adds q.heap q.last (returned v q') = subst (Adds q.heap q.last) e (step_adds w q) in
-    subst (λ (b : Last). Kept w s t b q'.heap) (sym x.1) (return p o e z)
+    subst (λ (b : Option Value). Kept w s t b q'.heap) (sym x.1) (return p o e z)
 
 module _ {h k : Held} {u n : ℕ} {did : Tally} {trace : List Entry} {x : Ran} (p : IsOne h u x k) (e : x.reply ≡ fault n did trace) where
   abbrev w : World

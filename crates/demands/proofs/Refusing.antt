@@ -1,9 +1,9 @@
 -- Demand 1: the checks of each entry are those of its rule.
-use Rattle.std.specs.Prelude.{if◌then◌else◌}
+use Rattle.std.specs.Prelude.{if◌then◌else◌, Err, None, Ok, Option, Result, Some}
 use mathlib.Core.Path.{◌≡◌, refl, sym, ap, ◌∙◌}
 use mathlib.Core.Bool.{Bool, true, false, not, ◌&&◌, ◌||◌}
 use mathlib.Core.List.{List, [], ◌∷◌}
-use mathlib.Core.Option.{Option, none, some}
+use mathlib.Core.Option.{Option as Maybe, none, some}
 use Prim.Native.Nat.{ℕ, suc, ◌+◌, ◌/◌, ◌≤◌, min}
 use native.Mathlib.Omega.{arith}
 use lib.Dec.{leb}
@@ -16,15 +16,7 @@ use Rattle.model.specs.declared.Value.{Value}
 use Rattle.model.specs.declared.Value.TheVariants as v
 use Rattle.model.specs.declared.Counts.{Counts}
 use Rattle.model.specs.declared.Frame.{Frame}
-use Rattle.model.specs.declared.Last.{Last}
-use Rattle.model.specs.declared.Last.TheVariants.{Nothing, Is}
-use Rattle.model.specs.declared.Emitted.{Emitted}
-use Rattle.model.specs.declared.Emitted.TheVariants as em
-use Rattle.model.specs.declared.Loaded.TheVariants as ld
-use Rattle.model.specs.declared.Changed.TheVariants as ch
-use Rattle.model.specs.declared.Told.{Told}
-use Rattle.model.specs.declared.Shown.{Shown}
-use Rattle.model.specs.declared.Headed.{Headed}
+use Rattle.model.specs.Answers.{refusal_number}
 use Rattle.model.specs.Values.{if_string, if_reference, places, kind_at, payload_at, exact_value, text_at}
 use Rattle.model.specs.Heap.{Cell}
 use Rattle.model.specs.Programs.{Function, name_limit, within_limits}
@@ -41,9 +33,12 @@ use Rattle.value.proofs.Coding.{and_left, and_right}
 use Rattle.demands.specs.Host.{Held, Ask, new, load, add_op, add_op1, add_op2, add_op3, patch, add_constant, add_struct, begin_function, end_function, set_strict, current_offset, function_idx, save, disassemble, backtrace, last_result, stack_value, block_header, element, text_bytes, Call, run, ask, Answer, told, put, shown, headed, Done, with_frames, emits, starts, changes, looks, done, RanBy, After}
 use Rattle.demands.specs.Refusals.{Check, must, must_not, first_of, is_none, is_empty, code_checks, has_text, writing, load_checks, new_name, fits_out, list_checks, no_last, exact_at, element_checks, text_checks, ask_checks, run_checks, checks, refused_run, refused_by, OutKept, Demand1}
 use Rattle.demands.proofs.Went.{answers, stays}
+use Rattle.model.specs.declared.Header.{Header}
+use Rattle.model.specs.declared.Refusal.{Refusal}
+use Rattle.model.specs.declared.Refusal.TheVariants as why
 
 -- what a refusal n leaves
-record Refusal (h : Held) (n : ℕ) (d : Done) : Type 0 where
+record RefusedBy (h : Held) (n : ℕ) (d : Done) : Type 0 where
   number : refused_by d.answer ≡ some n
   held : d.held ≡ h
   out : OutKept d.answer
@@ -55,16 +50,16 @@ pub record Says (h : Held) (cs : List Check) (d : Done) : Type 0 where
 
 module _ {A : Type 0} (f : A → Done) (h : Held) where
   -- a test that must hold
-  pass_then : (b : Bool) {n : ℕ} {cs : List Check} {x y : A} → Refusal h n (f y) → (b ≡ true → Says h cs (f x)) → Says h (must b n ∷ cs) (f (if b then x else y))
+  pass_then : (b : Bool) {n : ℕ} {cs : List Check} {x y : A} → RefusedBy h n (f y) → (b ≡ true → Says h cs (f x)) → Says h (must b n ∷ cs) (f (if b then x else y))
   unfolding first_of
   pass_then true r s = record { number = (s refl).number; kept = (s refl).kept }
   pass_then false r s = record { number = r.number; kept = λ m e. (r.held, r.out) }
 
-  pass_if : (b : Bool) {n : ℕ} {cs : List Check} {x y : A} → Refusal h n (f y) → Says h cs (f x) → Says h (must b n ∷ cs) (f (if b then x else y))
+  pass_if : (b : Bool) {n : ℕ} {cs : List Check} {x y : A} → RefusedBy h n (f y) → Says h cs (f x) → Says h (must b n ∷ cs) (f (if b then x else y))
   pass_if b r s = pass_then b r (λ e. s)
 
   -- a test that must not hold
-  stop_if : (b : Bool) {n : ℕ} {cs : List Check} {x y : A} → Refusal h n (f x) → Says h cs (f y) → Says h (must_not b n ∷ cs) (f (if b then x else y))
+  stop_if : (b : Bool) {n : ℕ} {cs : List Check} {x y : A} → RefusedBy h n (f x) → Says h cs (f y) → Says h (must_not b n ∷ cs) (f (if b then x else y))
   unfolding first_of
   stop_if true r s = record { number = r.number; kept = λ m e. (r.held, r.out) }
   stop_if false r s = record { number = s.number; kept = s.kept }
@@ -75,7 +70,7 @@ unfolding first_of
 says_none e = record { number = e; kept = λ n q. absurd (let z : ◌≡◌ {A = ℕ} 0 1 = cc in let y : ⊥ = omega arith in y) }
 
 -- refused at once
-says_first : {h : Held} {d : Done} {n : ℕ} {cs : List Check} → Refusal h n d → Says h (must_not true n ∷ cs) d
+says_first : {h : Held} {d : Done} {n : ℕ} {cs : List Check} → RefusedBy h n d → Says h (must_not true n ∷ cs) d
 unfolding first_of
 says_first r = record { number = r.number; kept = λ m e. (r.held, r.out) }
 
@@ -91,106 +86,102 @@ says_held s = record { number = s.number; kept = s.kept }
 module _ (h : Held) where
   -- ---- emission
 
-  emit_refused : (n : ℕ) → Refusal h n (emits h (refuse n h.stores))
+  emit_refused : (e : Refusal) → RefusedBy h (refusal_number e) (emits h (refuse e h.stores))
   unfolding emits
-  emit_refused n = record { number = refl; held = refl; out = tt }
+  emit_refused e = record { number = refl; held = refl; out = tt }
 
-  emit_done : (c : Counts) (n : ℕ) (s : Stores) → Says h [] (emits h (record { answer = em.Done c n; stores = s }))
+  emit_done : (c : Counts) (n : ℕ) (s : Stores) → Says h [] (emits h (record { answer = Ok (c, n); stores = s }))
   unfolding emits
   emit_done c n s = says_none refl
 
   -- good order first, and then that no run is under way
   write_says : (inOrder : Bool) {cs : List Check} (x : Res) → Says h cs (emits h x)
-      → Says h (writing h inOrder cs) (emits h (if inOrder then (if h.vm.run.on then refuse 25 h.stores else x) else refuse 19 h.stores))
-  write_says inOrder x s = pass_if (emits h) h inOrder (emit_refused 19) (stop_if (emits h) h h.vm.run.on (emit_refused 25) s)
+      → Says h (writing h inOrder cs) (emits h (if inOrder then (if h.vm.run.on then refuse why.RunUnderWay h.stores else x) else refuse why.NotInOrder h.stores))
+  write_says inOrder x s = pass_if (emits h) h inOrder (emit_refused why.NotInOrder) (stop_if (emits h) h h.vm.run.on (emit_refused why.RunUnderWay) s)
 
   code_says : (op : ℕ) (bytes : List ℕ) (place : ℕ) → Says h (code_checks h op (length bytes)) (emits h (emit_of h.vm.run.on h.vm.program op bytes place h.stores))
   unfolding code_checks emit_of emit_in appended
   code_says op bytes place =
-      write_says _ _ (stop_if (emits h) h _ (emit_refused 22) (stop_if (emits h) h _ (emit_refused 21) (stop_if (emits h) h _ (emit_refused 1) (emit_done _ _ _))))
+      write_says _ _ (stop_if (emits h) h _ (emit_refused why.OverLimit) (stop_if (emits h) h _ (emit_refused why.StoreFull) (stop_if (emits h) h _ (emit_refused why.UnknownOpcode) (emit_done _ _ _))))
 
   constant_says : (x : Constant) (lent : List ℕ)
       → Says h (must (not (has_text x) || text_room h.vm.program h.stores (length lent)) 21 ∷ []) (emits h (constant_added h.vm.program x lent h.stores))
   unfolding constant_added with_constant with_text_constant
   constant_says (k.Scalar x) lent = says_held (emit_done _ _ _)
   constant_says (k.Boolean x) lent = says_held (emit_done _ _ _)
-  constant_says k.String lent = pass_if (emits h) h (text_room h.vm.program h.stores (length lent)) (emit_refused 21) (emit_done _ _ _)
-  constant_says k.FunctionReference lent = pass_if (emits h) h (text_room h.vm.program h.stores (length lent)) (emit_refused 21) (emit_done _ _ _)
+  constant_says k.String lent = pass_if (emits h) h (text_room h.vm.program h.stores (length lent)) (emit_refused why.StoreFull) (emit_done _ _ _)
+  constant_says k.FunctionReference lent = pass_if (emits h) h (text_room h.vm.program h.stores (length lent)) (emit_refused why.StoreFull) (emit_done _ _ _)
 
-  struct_says : (name : List ℕ) (x : Option ℕ)
+  struct_says : (name : List ℕ) (x : Maybe ℕ)
       → Says h (must_not (is_none x && leb name_limit h.vm.program.structs) 22
       ∷ must_not (is_none x && leb (places 2 h.stores.structs) h.vm.program.structs) 21
       ∷ must (not (is_none x) || text_room h.vm.program h.stores (length name)) 21
       ∷ [])
       (emits h (struct_found h.vm.program name h.stores x))
   unfolding struct_found struct_added
-  struct_says name none = stop_if (emits h) h _ (emit_refused 22)
-      (stop_if (emits h) h _ (emit_refused 21) (pass_if (emits h) h (text_room h.vm.program h.stores (length name)) (emit_refused 21) (emit_done _ _ _)))
+  struct_says name none = stop_if (emits h) h _ (emit_refused why.OverLimit)
+      (stop_if (emits h) h _ (emit_refused why.StoreFull) (pass_if (emits h) h (text_room h.vm.program h.stores (length name)) (emit_refused why.StoreFull) (emit_done _ _ _)))
   struct_says name (some i) = says_more (says_more (says_held (emit_done _ _ _)))
 
   -- ---- making a machine
 
-  start_refused : (n : ℕ) → Refusal h n (starts h (start_with (ld.Refused n) h.stores h.stores h.lent.frames))
+  start_refused : (e : Refusal) → RefusedBy h (refusal_number e) (starts h (start_with (Err e) h.stores h.stores h.lent.frames))
   unfolding starts start_with
-  start_refused n = record { number = refl; held = refl; out = tt }
-
-  start_broken : (i : ℕ) → Refusal h 20 (starts h (start_with (ld.Broken i) h.stores h.stores h.lent.frames))
-  unfolding starts start_with
-  start_broken i = record { number = refl; held = refl; out = tt }
+  start_refused e = record { number = refl; held = refl; out = tt }
 
   -- the frame comes last
-  frame_by : (c : Counts) (s' : Stores) (fs : List Frame) → h.lent.frames ≡ fs → Says h (must_not (is_empty fs) 21 ∷ []) (starts h (start_with (ld.Done c) s' h.stores fs))
+  frame_by : (c : Counts) (s' : Stores) (fs : List Frame) → h.lent.frames ≡ fs → Says h (must_not (is_empty fs) 21 ∷ []) (starts h (start_with (Ok c) s' h.stores fs))
   unfolding starts start_with
   frame_by c s' [] q = says_first (record { number = refl; held = ap (λ (x : List Frame). record { vm = h.vm; stores = h.stores; lent = with_frames x h.lent }) (sym q); out = tt })
   frame_by c s' (f ∷ fs) q = says_more (says_none refl)
 
-  frame_says : (c : Counts) (s' : Stores) → Says h (must_not (is_empty h.lent.frames) 21 ∷ []) (starts h (start_with (ld.Done c) s' h.stores h.lent.frames))
+  frame_says : (c : Counts) (s' : Stores) → Says h (must_not (is_empty h.lent.frames) 21 ∷ []) (starts h (start_with (Ok c) s' h.stores h.lent.frames))
   frame_says c s' = frame_by c s' h.lent.frames refl
 
   -- no run is under way: before all else
   make_by : (running : Bool) {cs : List Check} (x : StartRes) → Says h cs (starts h x) → Says h (must_not running 25 ∷ cs) (starts h (unless_running running h.stores h.lent.frames x))
   unfolding unless_running start_with
-  make_by true x s = says_first (start_refused 25)
+  make_by true x s = says_first (start_refused why.RunUnderWay)
   make_by false x s = says_more s
 
   new_says : Says h (ask_checks new h) (starts h (new_machine_of h.vm.run.on h.stores h.lent.frames))
   unfolding ask_checks new_machine_of new_of as_loaded
   new_says =
       make_by h.vm.run.on _
-      (pass_if (λ (x : Res). starts h (start_with (as_loaded x.answer) x.stores h.stores h.lent.frames)) h _ (start_refused 21) (frame_says _ _))
+      (pass_if (λ (x : Res). starts h (start_with (as_loaded x.answer) x.stores h.stores h.lent.frames)) h _ (start_refused why.StoreFull) (frame_says _ _))
 
   load_by : (x : Judged) → Says h (load_checks h x) (starts h (start_with (load_judged x h.stores).answer (load_judged x h.stores).stores h.stores h.lent.frames))
   unfolding load_checks load_judged
-  load_by (broken i) = says_first (start_broken i)
+  load_by (broken i) = says_first (start_refused (why.BrokenImage i))
   load_by (fine p) =
       let f : LoadRes → Done = λ x. starts h (start_with x.answer x.stores h.stores h.lent.frames) in
-      pass_if f h (within_limits p) (start_refused 22) (pass_if f h (room_for p h.stores) (start_refused 21) (frame_says _ _))
+      pass_if f h (within_limits p) (start_refused why.OverLimit) (pass_if f h (room_for p h.stores) (start_refused why.StoreFull) (frame_says _ _))
 
   -- ---- the setting
 
-  change_refused : (n : ℕ) → Refusal h n (changes h (ch.Refused n))
+  change_refused : (e : Refusal) → RefusedBy h (refusal_number e) (changes h (Err e))
   unfolding changes
-  change_refused n = record { number = refl; held = refl; out = tt }
+  change_refused e = record { number = refl; held = refl; out = tt }
 
   set_says : (b : Bool) → Says h (ask_checks (set_strict b) h) (changes h (setStrictOf b h.vm h.stores h.lent))
   unfolding ask_checks setStrictOf changes
-  set_says b = pass_if (changes h) h _ (change_refused 19) (stop_if (changes h) h _ (change_refused 25) (says_none refl))
+  set_says b = pass_if (changes h) h _ (change_refused why.NotInOrder) (stop_if (changes h) h _ (change_refused why.RunUnderWay) (says_none refl))
 
   -- ---- entries that only look
 
-  abbrev tells : Told → Done
+  abbrev tells : Result ℕ Refusal → Done
   tells x = looks h (told x)
 
-  abbrev shows : Shown → Done
+  abbrev shows : Result Value Refusal → Done
   shows x = looks h (shown x)
 
-  abbrev heads : Headed → Done
+  abbrev heads : Result Header Refusal → Done
   heads x = looks h (headed x)
 
   abbrev puts : List ℕ → OutRes → Done
   puts out x = looks h (put out x)
 
-  looked : (a : Answer) {n : ℕ} → refused_by a ≡ some n → OutKept a → Refusal h n (looks h a)
+  looked : (a : Answer) {n : ℕ} → refused_by a ≡ some n → OutKept a → RefusedBy h n (looks h a)
   unfolding looks
   looked a e o = record { number = e; held = refl; out = o }
 
@@ -198,7 +189,7 @@ module _ (h : Held) where
   unfolding looks
   saw a e = says_none e
 
-  name_says : (x : Option ℕ) → Says h (must_not (is_none x) 14 ∷ []) (tells (told_name x))
+  name_says : (x : Maybe ℕ) → Says h (must_not (is_none x) 14 ∷ []) (tells (told_name x))
   unfolding told_name
   name_says none = says_first (looked _ refl tt)
   name_says (some i) = says_more (saw _ refl)
@@ -210,18 +201,18 @@ module _ (h : Held) where
   listing_says : (out : List ℕ) (x : Listed) → Says h (list_checks out x) (puts out (put_listing x out))
   unfolding list_checks put_listing
   listing_says out (text bytes) = out_says out bytes
-  listing_says out (unlisted before n) = says_first (looked _ refl refl)
+  listing_says out (unlisted before e) = says_first (looked _ refl refl)
 
   trace_says : (out : List ℕ) (fs : List Function) (rs : List Frame) → Says h (must (traceable fs rs) 16 ∷ []) (puts out (put_trace (backtrace_of fs rs) out))
   unfolding backtrace_of put_trace
   trace_says out fs rs = pass_if (λ (x : Traced). puts out (put_trace x out)) h (traceable fs rs) (looked _ refl refl) (saw _ refl)
 
-  last_says : (x : Last) → Says h (must_not (no_last x) 7 ∷ []) (shows (last_shown x))
+  last_says : (x : Option Value) → Says h (must_not (no_last x) 7 ∷ []) (shows (last_shown x))
   unfolding last_shown
-  last_says Nothing = says_first (looked _ refl tt)
-  last_says (Is x) = says_more (saw _ refl)
+  last_says None = says_first (looked _ refl tt)
+  last_says (Some x) = says_more (saw _ refl)
 
-  header_says : (H : List Cell) (x : Option ℕ) → Says h (must_not (is_none x) 5 ∷ []) (heads (header_shown H x))
+  header_says : (H : List Cell) (x : Maybe ℕ) → Says h (must_not (is_none x) 5 ∷ []) (heads (header_shown H x))
   unfolding header_shown
   header_says H none = says_first (looked _ refl tt)
   header_says H (some p) = says_more (saw _ refl)
@@ -230,7 +221,7 @@ module _ (h : Held) where
   unfolding exact_at value_shown
   value_says s i = pass_if shows h (exact_value (kind_at s i) (payload_at s i)) (looked _ refl tt) (saw _ refl)
 
-  element_says : (i : ℕ) (x : Option ℕ) → Says h (element_checks h i x) (shows (element_shown h.vm i h.lent.cells x))
+  element_says : (i : ℕ) (x : Maybe ℕ) → Says h (element_checks h i x) (shows (element_shown h.vm i h.lent.cells x))
   unfolding element_checks element_shown
   element_says i none = says_first (looked _ refl tt)
   element_says i (some p) = pass_if shows h _ (looked _ refl tt) (pass_if shows h _ (looked _ refl tt) (value_says h.lent.cells (suc p + i)))
@@ -265,14 +256,14 @@ module _ (h : Held) where
   ask_says (add_op1 op a place) = code_says op _ place
   ask_says (add_op2 op a b place) = code_says op _ place
   ask_says (add_op3 op a b c place) = code_says op _ place
-  ask_says (patch offset word) = write_says _ _ (stop_if (emits h) h _ (emit_refused 23) (emit_done _ _ _))
-  ask_says (add_constant x bytes) = write_says _ _ (stop_if (emits h) h _ (emit_refused 22) (stop_if (emits h) h _ (emit_refused 21) (constant_says x bytes)))
+  ask_says (patch offset word) = write_says _ _ (stop_if (emits h) h _ (emit_refused why.PatchOutsideCode) (emit_done _ _ _))
+  ask_says (add_constant x bytes) = write_says _ _ (stop_if (emits h) h _ (emit_refused why.OverLimit) (stop_if (emits h) h _ (emit_refused why.StoreFull) (constant_says x bytes)))
   ask_says (add_struct name) = write_says _ _ (struct_says name _)
   ask_says (begin_function name) =
-      write_says _ _ (stop_if (emits h) h _ (emit_refused 22) (stop_if (emits h) h _ (emit_refused 21) (pass_if (emits h) h _ (emit_refused 21) (emit_done _ _ _))))
+      write_says _ _ (stop_if (emits h) h _ (emit_refused why.OverLimit) (stop_if (emits h) h _ (emit_refused why.StoreFull) (pass_if (emits h) h _ (emit_refused why.StoreFull) (emit_done _ _ _))))
   ask_says end_function =
-      let f : Emitted → Done = λ x. emits h (record { answer = x; stores = h.stores }) in
-      pass_if f h _ (emit_refused 19) (stop_if f h h.vm.run.on (emit_refused 25) (emit_done _ _ _))
+      let f : Result (Counts × ℕ) Refusal → Done = λ x. emits h (record { answer = x; stores = h.stores }) in
+      pass_if f h _ (emit_refused why.NotInOrder) (stop_if f h h.vm.run.on (emit_refused why.RunUnderWay) (emit_done _ _ _))
   ask_says (set_strict b) = set_says b
   ask_says current_offset = pass_if tells h _ (looked _ refl tt) (saw _ refl)
   ask_says (function_idx name) = pass_if tells h _ (looked _ refl tt) (name_says _)

@@ -1,5 +1,5 @@
 -- A machine in good order stays so where its program grows.
-use Rattle.std.specs.Prelude.{if◌then◌else◌}
+use Rattle.std.specs.Prelude.{if◌then◌else◌, None, Option, Some}
 use mathlib.Core.Path.{◌≡◌, refl}
 use mathlib.Core.Bool.{Bool, true, false, ◌&&◌}
 use mathlib.Core.List.{List, [], ◌∷◌}
@@ -12,8 +12,6 @@ use Rattle.model.specs.declared.Counts.{Counts}
 use Rattle.model.specs.declared.Vm.{Vm}
 use Rattle.model.specs.declared.Value.{Value}
 use Rattle.model.specs.declared.Value.TheVariants as v
-use Rattle.model.specs.declared.Last.{Last}
-use Rattle.model.specs.declared.Last.TheVariants.{Nothing, Is}
 use Rattle.model.specs.declared.Frame.{Frame}
 use Rattle.model.specs.Heap.{Cell, item, head, cell_in, head_in, elements_in, deepest, whole_below, placed_below, element_below, elements_below, block_ok, blocks_from, heap_ok}
 use Rattle.model.specs.Steps.{World, State}
@@ -81,10 +79,10 @@ module _ (t u : ℕ) (h : t ≤ u) (H : List Cell) where
   all_text [] a = tt
   all_text (x ∷ vs) a = (placed_text (length H) x a.0, all_text vs a.1)
 
-  last_text : (x : Last) → LastPlaced t H x → LastPlaced u H x
+  last_text : (x : Option Value) → LastPlaced t H x → LastPlaced u H x
   unfolding LastPlaced
-  last_text Nothing p = tt
-  last_text (Is x) p = placed_text (length H) x p
+  last_text None p = tt
+  last_text (Some x) p = placed_text (length H) x p
 
 -- ---- a wider world
 

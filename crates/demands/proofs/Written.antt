@@ -6,8 +6,6 @@ use Prim.Native.Nat.{ℕ, ◌+◌, ◌≤◌}
 use native.Mathlib.Omega.{arith}
 use borrow.Author.Tests.{eqb-true, eqb-false, not-true, not-false}
 use lib.Dec.{eqb}
-use Rattle.model.specs.declared.Last.{Last}
-use Rattle.model.specs.declared.Last.TheVariants.{Nothing, Is}
 use Rattle.model.specs.declared.Tally.{Tally}
 use Rattle.model.specs.declared.Fault.{Fault}
 use Rattle.model.specs.declared.Fault.TheVariants as f
@@ -32,6 +30,8 @@ use Rattle.demands.specs.Parts.{Parts, Over, IsThirteen, PausedAtThirteen, Stand
 use Rattle.demands.proofs.Parting.{parts_come_to, over_is_one}
 use Rattle.demands.proofs.Paying.{fault_cost, path_units, run_is_steps}
 use Rattle.demands.proofs.Growing.{as_trees}
+use Rattle.std.specs.Prelude.{None, Option, Some}
+use Rattle.model.specs.declared.Value.{Value}
 
 fault_known : (w : World) (n : Fault) → Tells w n → FaultOf w.strict (fault_number n)
 unfolding fault_number
@@ -51,10 +51,10 @@ fault_known w f.TooDeep h = of_any (omega arith) (omega arith)
 fault_known w f.NoFunction h = of_any (omega arith) (omega arith)
 
 module _ (w : World) (m : Machine) (u : ℕ) where
-  answered_within : (a : Last) (i : Tally) → i.spent ≤ u → some_last a ≡ not (eqb i.returns 0) → Within w.strict u (answered a i)
+  answered_within : (a : Option Value) (i : Tally) → i.spent ≤ u → some_last a ≡ not (eqb i.returns 0) → Within w.strict u (answered a i)
   unfolding answered some_last
-  answered_within Nothing i h e = (h, eqb-true _ _ (not-false _ (sym e)))
-  answered_within (Is x) i h e = let some : i.returns ≡ 0 → ⊥ = eqb-false _ _ (not-true _ (sym e)) in (h, omega (arith, some))
+  answered_within None i h e = (h, eqb-true _ _ (not-false _ (sym e)))
+  answered_within (Some x) i h e = let some : i.returns ≡ 0 → ⊥ = eqb-false _ _ (not-true _ (sym e)) in (h, omega (arith, some))
 
   settled_within : (e : Ended) → By w (at_start (begin m u)) (begin m u) e → Within w.strict u (given_up w (part_of w m.stack u e)).reply
   unfolding part_of given_up abandon_of
@@ -117,10 +117,10 @@ run_written {h} {k} {u} {x} p =
 
 -- ---- a run in parts is paused where one run ends in 13
 
-answered_not_thirteen : (a : Last) (i : Tally) → IsThirteen (answered a i) → ⊥
+answered_not_thirteen : (a : Option Value) (i : Tally) → IsThirteen (answered a i) → ⊥
 unfolding answered
-answered_not_thirteen Nothing i e = e
-answered_not_thirteen (Is x) i e = e
+answered_not_thirteen None i e = e
+answered_not_thirteen (Some x) i e = e
 
 thirteen_by : (w : World) (m : Machine) (u : ℕ) (e : Ended) → PausedAtThirteen (given_up w (part_of w m.stack u e)).reply (part_of w m.stack u e)
 unfolding part_of given_up abandon_of

@@ -1,25 +1,19 @@
 -- What a host holds, the calls that it can make, and what each call answers and leaves: as the contracts of the entries say.
-use Rattle.std.specs.Prelude.{◌≡◌, Bool, List, [], ◌∷◌, ℕ}
+use Rattle.std.specs.Prelude.{◌≡◌, Bool, List, [], ◌∷◌, ℕ, Err, Ok, Result}
 use Rattle.model.specs.declared.Constant.{Constant}
 use Rattle.model.specs.declared.Value.{Value}
 use Rattle.model.specs.declared.Frame.{Frame}
 use Rattle.model.specs.declared.Vm.{Vm}
-use Rattle.model.specs.declared.Emitted.{Emitted}
-use Rattle.model.specs.declared.Emitted.TheVariants as e
-use Rattle.model.specs.declared.Started.{Started}
-use Rattle.model.specs.declared.Started.TheVariants as st
-use Rattle.model.specs.declared.Changed.{Changed}
-use Rattle.model.specs.declared.Changed.TheVariants as ch
-use Rattle.model.specs.declared.Told.{Told}
-use Rattle.model.specs.declared.Shown.{Shown}
-use Rattle.model.specs.declared.Headed.{Headed}
-use Rattle.model.specs.declared.RunResult.{RunResult}
-use Rattle.model.specs.declared.RunResult.TheVariants as r
+use Rattle.model.specs.declared.Halt.TheVariants as r
 use Rattle.model.specs.Stores.{Stores}
 use Rattle.model.specs.Emission.{Res, add_op_of, add_op1_of, add_op2_of, add_op3_of, current_offset_of, patch_of, add_constant_of, add_struct_of, begin_function_of, end_function_of, function_idx_of}
 use Rattle.model.specs.Loading.{OutRes, save_of, list_of}
 use Rattle.model.specs.Machines.{Lent, RunAnswer, answer_in, RunCall, RunPost, set_strict as setStrictOf, backtrace_in, StartRes, load_machine_of, new_machine_of}
 use Rattle.model.specs.Readers.{last_result_of, stack_value_of, block_header_of, element_of, text_bytes_of}
+use Rattle.model.specs.declared.Counts.{Counts}
+use Rattle.model.specs.declared.Header.{Header}
+use Rattle.model.specs.declared.Halt.{Halt}
+use Rattle.model.specs.declared.Refusal.{Refusal}
 
 -- the machine's counts, the program's stores, and what is lent besides
 pub record Held : Type 0 where
@@ -61,13 +55,13 @@ pub data Call : Type 0 where
 -- what comes back; of an entry that writes a result store, the store as it was lent, the answer, and the store then
 pub data Answer : Type 0 where
   ran : RunAnswer → Answer
-  emitted : Emitted → Answer
-  started : Started → Answer
-  changed : Changed → Answer
-  told : Told → Answer
+  emitted : Result (Counts × ℕ) Refusal → Answer
+  started : Result Vm Refusal → Answer
+  changed : Result Vm Refusal → Answer
+  told : Result ℕ Refusal → Answer
   put : (out : List ℕ) → OutRes → Answer
-  shown : Shown → Answer
-  headed : Headed → Answer
+  shown : Result Value Refusal → Answer
+  headed : Result Header Refusal → Answer
 
 -- ---- the equational entries
 
@@ -76,18 +70,17 @@ pub record Done : Type 0 where
   pub held : Held
 
 -- only the program's counts change
-abbrev pub counted : Vm → Emitted → Vm
-counted m (e.Done c n) = record { program = c; stack = m.stack; frames = m.frames; cells = m.cells; last = m.last; run = m.run; strict = m.strict }
-counted m (e.Refused n) = m
+abbrev pub counted : Vm → Result (Counts × ℕ) Refusal → Vm
+counted m (Ok (c, n)) = record { program = c; stack = m.stack; frames = m.frames; cells = m.cells; last = m.last; run = m.run; strict = m.strict }
+counted m (Err e) = m
 
 unfoldable pub emits : Held → Res → Done
 emits h x = record { answer = emitted x.answer; held = record { vm = counted h.vm x.answer; stores = x.stores; lent = h.lent } }
 
 -- the machine is another one
-abbrev pub replaced : Vm → Started → Vm
-replaced m (st.Done m') = m'
-replaced m (st.Broken i) = m
-replaced m (st.Refused n) = m
+abbrev pub replaced : Vm → Result Vm Refusal → Vm
+replaced m (Ok m') = m'
+replaced m (Err e) = m
 
 abbrev pub with_frames : List Frame → Lent → Lent
 with_frames fs l = record { stack = l.stack; cells = l.cells; frames = fs; copy = l.copy; backtrace = l.backtrace }
@@ -96,11 +89,11 @@ unfoldable pub starts : Held → StartRes → Done
 starts h x = record { answer = started x.answer; held = record { vm = replaced h.vm x.answer; stores = x.stores; lent = with_frames x.frames h.lent } }
 
 -- the machine comes back with the setting
-abbrev pub with_setting : Vm → Changed → Vm
-with_setting m (ch.Done m') = m'
-with_setting m (ch.Refused n) = m
+abbrev pub with_setting : Vm → Result Vm Refusal → Vm
+with_setting m (Ok m') = m'
+with_setting m (Err e) = m
 
-unfoldable pub changes : Held → Changed → Done
+unfoldable pub changes : Held → Result Vm Refusal → Done
 changes h x = record { answer = changed x; held = record { vm = with_setting h.vm x; stores = h.stores; lent = h.lent } }
 
 -- nothing changes
@@ -134,16 +127,16 @@ done (text_bytes x out) h = looks h (put out (text_bytes_of h.vm x h.stores.text
 
 -- ---- a part of a run
 
-abbrev pub vm_after : Vm → RunResult → Vm
-vm_after m (r.Value m' x n) = m'
-vm_after m (r.Continue m' n) = m'
-vm_after m (r.Fault m' k n j) = m'
-vm_after m (r.Paused m') = m'
-vm_after m (r.Refused n) = m
+abbrev pub vm_after : Vm → Result Halt Refusal → Vm
+vm_after m (Ok (r.Value m' x n)) = m'
+vm_after m (Ok (r.Continue m' n)) = m'
+vm_after m (Ok (r.Fault m' k n j)) = m'
+vm_after m (Ok (r.Paused m')) = m'
+vm_after m (Err e) = m
 
 -- a result and lent stores that fit the contract of a run's call; the program's stores are only read
 pub record RanBy (c : RunCall) (h : Held) (a : Answer) (h' : Held) : Type 0 where
-  pub result : RunResult
+  pub result : Result Halt Refusal
   pub post : RunPost c h.vm h.stores h.lent result h'.lent
   pub answer : a ≡ ran (answer_in h'.lent result)
   pub vm : h'.vm ≡ vm_after h.vm result

@@ -1,7 +1,5 @@
 -- Demand 3, by meaning: machines that mean the same, wherever their texts and cells lie, and what their answers say.
-use Rattle.std.specs.Prelude.{◌≡◌, Bool, true, List, [], ◌∷◌, ℕ, length}
-use Rattle.model.specs.declared.Changed.TheVariants as ch
-use Rattle.model.specs.declared.Shown.TheVariants as w
+use Rattle.std.specs.Prelude.{◌≡◌, Bool, true, List, [], ◌∷◌, ℕ, length, Err, Ok}
 use Rattle.model.specs.declared.Tally.{Tally}
 use Rattle.model.specs.Heap.{Cell}
 use Rattle.model.specs.Trees.{Tree, meaning}
@@ -95,12 +93,12 @@ said_in t H (ran (m.ran c (pauses r))) = paused r.given (tally r.state.spent r.p
 said_in t H (ran (m.refused n)) = plain (ran (m.refused n))
 said_in t H (emitted a) = plain (emitted a)
 said_in t H (started a) = plain (started a)
-said_in t H (changed (ch.Done x)) = set x.strict
-said_in t H (changed (ch.Refused n)) = plain (changed (ch.Refused n))
+said_in t H (changed (Ok x)) = set x.strict
+said_in t H (changed (Err e)) = plain (changed (Err e))
 said_in t H (told a) = plain (told a)
 said_in t H (put out a) = plain (put out a)
-said_in t H (shown (w.Value x)) = value (meaning t H x)
-said_in t H (shown (w.Refused n)) = plain (shown (w.Refused n))
+said_in t H (shown (Ok x)) = value (meaning t H x)
+said_in t H (shown (Err e)) = plain (shown (Err e))
 said_in t H (headed a) = plain (headed a)
 
 -- what it says, or that it is its own

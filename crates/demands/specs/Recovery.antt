@@ -1,8 +1,6 @@
 -- Demand 3: what a run that ends in a fault or is abandoned leaves, and that no later answer tells it from a machine set up so by hand.
-use Rattle.std.specs.Prelude.{◌≡◌, true, false, List, map, ℕ, ◌*◌, length, get_or}
+use Rattle.std.specs.Prelude.{◌≡◌, true, false, List, map, ℕ, ◌*◌, length, get_or, Option, Some}
 use Rattle.model.specs.declared.Value.{Value}
-use Rattle.model.specs.declared.Last.{Last}
-use Rattle.model.specs.declared.Last.TheVariants.{Is}
 use Rattle.model.specs.declared.Vm.{Vm}
 use Rattle.model.specs.declared.Tally.{Tally}
 use Rattle.model.specs.Heap.{Cell, heap_of}
@@ -22,11 +20,11 @@ use Rattle.demands.specs.Agree.{Alike, Rooms}
 use Rattle.demands.specs.Meant.{AlikeHeld, said}
 
 -- the last result and the cells that are kept of a run from s that was cut in t
-pub data Kept (w : World) (s t : State) : Last → List Cell → Type 0 where
+pub data Kept (w : World) (s t : State) : Option Value → List Cell → Type 0 where
   -- no root Return was completed: the former ones
   start : Quiet w s t → Kept w s t s.last s.heap
   -- those of the last root Return completed before the cut, which returned v
-  return : {n : ℕ} {m k : Progress} {q q' : State} {v : Value} → Steps w n m s k q → over w q ≡ false → step_of w q ≡ returned v q' → Quiet w q' t → Kept w s t (Is v) q'.heap
+  return : {n : ℕ} {m k : Progress} {q q' : State} {v : Value} → Steps w n m s k q → over w q ≡ false → step_of w q ≡ returned v q' → Quiet w q' t → Kept w s t (Some v) q'.heap
 
 -- a run that was begun by m and given u units in all, in however many parts; it answered fault n, or was abandoned, with what it did and a backtrace, and left
 -- m'. The program's stores are only read.

@@ -1,24 +1,11 @@
 -- Demand 1: each entry refuses bad input by a number from document 01: which, exactly when, and in which order.
-use Rattle.std.specs.Prelude.{◌≡◌, Bool, true, false, not, ◌&&◌, ◌||◌, List, [], ◌∷◌, ℕ, suc, ◌+◌, ltb, leb, length, if◌then◌else◌}
-use Rattle.std.proofs.Math.Option.{Option, none, some}
+use Rattle.std.specs.Prelude.{◌≡◌, Bool, true, false, not, ◌&&◌, ◌||◌, List, [], ◌∷◌, ℕ, suc, ◌+◌, ltb, leb, length, if◌then◌else◌, Err, None, Ok, Option, Result, Some}
+use Rattle.std.proofs.Math.Option.{Option as Maybe, none, some}
 use Rattle.model.specs.declared.Constant.{Constant}
 use Rattle.model.specs.declared.Constant.TheVariants as k
 use Rattle.model.specs.declared.Value.{Value}
 use Rattle.model.specs.declared.Value.TheVariants as v
-use Rattle.model.specs.declared.Last.{Last}
-use Rattle.model.specs.declared.Last.TheVariants.{Nothing, Is}
-use Rattle.model.specs.declared.Emitted.{Emitted}
-use Rattle.model.specs.declared.Emitted.TheVariants as e
-use Rattle.model.specs.declared.Started.{Started}
-use Rattle.model.specs.declared.Started.TheVariants as st
-use Rattle.model.specs.declared.Changed.{Changed}
-use Rattle.model.specs.declared.Changed.TheVariants as ch
-use Rattle.model.specs.declared.Told.{Told}
-use Rattle.model.specs.declared.Told.TheVariants as t
-use Rattle.model.specs.declared.Shown.{Shown}
-use Rattle.model.specs.declared.Shown.TheVariants as w
-use Rattle.model.specs.declared.Headed.{Headed}
-use Rattle.model.specs.declared.Headed.TheVariants as hd
+use Rattle.model.specs.Answers.{refusal_number}
 use Rattle.model.specs.Values.{places, kind_at, payload_at, value_at, exact_value}
 use Rattle.model.specs.Heap.{heap_of, head_in, placed_below}
 use Rattle.model.specs.Programs.{newest_from, first_from, code_limit, constant_limit, name_limit, within_limits}
@@ -32,6 +19,7 @@ use Rattle.model.specs.Loading.{room_for, list_order}
 use Rattle.model.specs.Machines.{innermost, callers_in, run_order, copy_short, trace_short, RunCall, begins, continues, abandons, RunAnswer, ran as answered, refused, trace_order}
 use Rattle.model.specs.Readers.{reads, header_at, reads_text}
 use Rattle.demands.specs.Host.{Held, Ask, new, load, add_op, add_op1, add_op2, add_op3, patch, add_constant, add_struct, begin_function, end_function, set_strict, current_offset, function_idx, save, disassemble, backtrace, last_result, stack_value, block_header, element, text_bytes, Call, run, ask, Answer, ran, emitted, started, changed, told, put, shown, headed}
+use Rattle.model.specs.declared.Refusal.{Refusal}
 
 -- a test that must hold, or must not hold; else the number comes back
 pub data Check : Type 0 where
@@ -43,14 +31,14 @@ abbrev pub always : ℕ → Check
 always n = must_not true n
 
 -- the checks are made in order: the number of the first that fails
-unfoldable pub first_of : List Check → Option ℕ
+unfoldable pub first_of : List Check → Maybe ℕ
 first_of [] = none
 first_of (must b n ∷ cs) = if b then first_of cs else some n
 first_of (must_not b n ∷ cs) = if b then some n else first_of cs
 
 -- ---- the checks of each entry
 
-abbrev pub is_none : {A : Type 0} → Option A → Bool
+abbrev pub is_none : {A : Type 0} → Maybe A → Bool
 is_none none = true
 is_none (some x) = false
 
@@ -97,21 +85,21 @@ new_name h name = is_none (first_from 0 name (struct_names h.vm.program h.stores
 unfoldable pub fits_out : List ℕ → ℕ → Bool
 fits_out out n = leb n (places 1 out)
 
--- n is 1 or 3, as met first (`listing_numbers`)
+-- its number is 1 or 3, as met first (`listing_numbers`)
 unfoldable pub list_checks : List ℕ → Listed → List Check
 list_checks out (text bytes) = must (fits_out out (length bytes)) 17 ∷ []
-list_checks out (unlisted before n) = always n ∷ []
+list_checks out (unlisted before e) = always (refusal_number e) ∷ []
 
-abbrev pub no_last : Last → Bool
-no_last Nothing = true
-no_last (Is x) = false
+abbrev pub no_last : Option Value → Bool
+no_last None = true
+no_last (Some x) = false
 
 -- place i of a store holds exactly a value's words
 unfoldable pub exact_at : List ℕ → ℕ → Bool
 exact_at s i = exact_value (kind_at s i) (payload_at s i)
 
 -- element i is there, placed below its list's or struct's header at p; other values have no elements
-unfoldable pub element_checks : Held → ℕ → Option ℕ → List Check
+unfoldable pub element_checks : Held → ℕ → Maybe ℕ → List Check
 element_checks h i none = always 5 ∷ []
 element_checks h i (some p) =
     must (ltb i (head_in (heap_of h.vm.cells h.lent.cells) p).count) 6
@@ -223,44 +211,23 @@ checks (ask q) h = ask_checks q h
 
 -- ---- what an answer says of a refusal
 
-abbrev pub refused_emitted : Emitted → Option ℕ
-refused_emitted (e.Done c n) = none
-refused_emitted (e.Refused n) = some n
+abbrev pub refused_in : {A : Type 0} → Result A Refusal → Maybe ℕ
+refused_in (Ok x) = none
+refused_in (Err e) = some (refusal_number e)
 
-abbrev pub refused_started : Started → Option ℕ
-refused_started (st.Done m) = none
-refused_started (st.Broken i) = some 20
-refused_started (st.Refused n) = some n
-
-abbrev pub refused_changed : Changed → Option ℕ
-refused_changed (ch.Done m) = none
-refused_changed (ch.Refused n) = some n
-
-abbrev pub refused_told : Told → Option ℕ
-refused_told (t.Number n) = none
-refused_told (t.Refused n) = some n
-
-abbrev pub refused_shown : Shown → Option ℕ
-refused_shown (w.Value x) = none
-refused_shown (w.Refused n) = some n
-
-abbrev pub refused_headed : Headed → Option ℕ
-refused_headed (hd.Is x) = none
-refused_headed (hd.Refused n) = some n
-
-abbrev pub refused_run : RunAnswer → Option ℕ
+abbrev pub refused_run : RunAnswer → Maybe ℕ
 refused_run (answered c x) = none
 refused_run (refused n) = some n
 
-abbrev pub refused_by : Answer → Option ℕ
+abbrev pub refused_by : Answer → Maybe ℕ
 refused_by (ran x) = refused_run x
-refused_by (emitted x) = refused_emitted x
-refused_by (started x) = refused_started x
-refused_by (changed x) = refused_changed x
-refused_by (told x) = refused_told x
-refused_by (put out x) = refused_told x.answer
-refused_by (shown x) = refused_shown x
-refused_by (headed x) = refused_headed x
+refused_by (emitted x) = refused_in x
+refused_by (started x) = refused_in x
+refused_by (changed x) = refused_in x
+refused_by (told x) = refused_in x
+refused_by (put out x) = refused_in x.answer
+refused_by (shown x) = refused_in x
+refused_by (headed x) = refused_in x
 
 -- ---- a result store that is as it was lent
 

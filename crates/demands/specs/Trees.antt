@@ -1,8 +1,7 @@
 -- Demand 2: values are trees, as the Rust has them.
-use Rattle.std.specs.Prelude.{◌≡◌, true, List, ◌∷◌, ℕ, length}
+use Rattle.std.specs.Prelude.{◌≡◌, true, List, ◌∷◌, ℕ, length, Ok}
 use Rattle.model.specs.declared.Value.{Value}
 use Rattle.model.specs.declared.Value.TheVariants as v
-use Rattle.model.specs.declared.Found.TheVariants as g
 use Rattle.model.specs.Heap.{Cell, list_elements, struct_fields, built, build_of, field_of, placed_below}
 use Rattle.model.specs.Equality.{same_of}
 use Rattle.model.specs.Trees.{Tree, Trees, list, struct, trees_of, meaning, same_tree}
@@ -25,7 +24,7 @@ pub record AsTrees (w : World) (s : State) : Type 0 where
   pub struct_built : (k n : ℕ) (H : List Cell) → build_of w.cell_room s.heap k (struct_fields n s.stack) ≡ built H
       → meaning w.text H (v.StructInstance (length s.heap)) ≡ struct k (trees_of (means w s) (struct_fields n s.stack))
   -- [field] field i of the topmost struct is its tree number i
-  pub field : (p i : ℕ) (r : List Value) (x : Value) → s.stack ≡ v.StructInstance p ∷ r → field_of s.heap p i ≡ g.Got x
+  pub field : (p i : ℕ) (r : List Value) (x : Value) → s.stack ≡ v.StructInstance p ∷ r → field_of s.heap p i ≡ Ok x
       → (k : ℕ) (us : Trees) → means w s (v.StructInstance p) ≡ struct k us → At us i (means w s x)
   -- what a value of s means, no later step changes
   pub later : {n : ℕ} {m k : Progress} {t : State} → Steps w n m s k t → (x : Value) → placed_below (length w.text) s.heap (length s.heap) x ≡ true → means w t x ≡ means w s x

@@ -1,6 +1,6 @@
 -- What an entry over call frames itself answers, as its judges know it: 19 where the order is not good, then 25 or 18, and no such number else. And what a
 -- short record does not change of loading.
-use Rattle.std.specs.Prelude.{if◌then◌else◌}
+use Rattle.std.specs.Prelude.{if◌then◌else◌, Err, Ok, Result}
 use mathlib.Core.Path.{◌≡◌, refl, ◌∙◌}
 use mathlib.Core.Bool.{Bool, true, false}
 use mathlib.Core.List.{List, [], ◌∷◌}
@@ -8,46 +8,43 @@ use Prim.Native.Nat.{ℕ, ◌+◌}
 use lib.Dec.{ltb}
 use Rattle.model.specs.declared.Vm.{Vm}
 use Rattle.model.specs.declared.Frame.{Frame}
-use Rattle.model.specs.declared.Emitted.{Emitted}
-use Rattle.model.specs.declared.Emitted.TheVariants as e
-use Rattle.model.specs.declared.Loaded.{Loaded}
-use Rattle.model.specs.declared.Loaded.TheVariants as l
-use Rattle.model.specs.declared.Started.{Started}
-use Rattle.model.specs.declared.Told.TheVariants as t
-use Rattle.model.specs.Answers.{told_number}
+use Rattle.model.specs.Answers.{answer_number}
 use Rattle.model.specs.Values.{places}
 use Rattle.model.specs.Stores.{Stores, functions_from}
-use Rattle.model.specs.Emission.{new_of}
+use Rattle.model.specs.Emission.{Res, done, refuse, new_of}
 use Rattle.model.specs.Loading.{OutRes, load_of}
 use Rattle.model.specs.Runs.{Entry, trace, untraced, trace_of, traceable, backtrace_of, Part}
 use Rattle.model.specs.Machines.{Lent, run_order, copy_short, trace_short, Unchanged, RunAnswer, ran, refused as not_run, begins, continues, abandons, begin_answer, continue_answer, abandon_answer, run_answer, refusal_of}
 use Rattle.model.specs.Machines.{trace_order, put_trace, innermost, callers_in, backtrace_in, start_with, unless_running, load_machine_of, as_loaded, new_machine_of}
 use Rattle.embed_words.specs.Coding.{at_entry, among, Coded, unmade}
 use Rattle.laws_embed.proofs.Says.{Says, late_says, says_itself}
+use Rattle.model.specs.declared.Counts.{Counts}
+use Rattle.model.specs.declared.Refusal.{Refusal}
+use Rattle.model.specs.declared.Refusal.TheVariants as why
 
 -- ---- the backtrace
 
 -- none of the numbers that come before a short answer
 abbrev Late : OutRes → Type 0
-Late x = among at_entry (told_number x.answer) ≡ false
+Late x = among at_entry (answer_number x.answer) ≡ false
 
-traced : (b : Bool) (es : List Entry) (out : List ℕ) → Late (put_trace (if b then trace es else untraced 16) out)
+traced : (b : Bool) (es : List Entry) (out : List ℕ) → Late (put_trace (if b then trace es else untraced why.PlaceOutsideCode) out)
 unfolding put_trace among
 traced true es out = refl
 traced false es out = refl
 
-short_first : (b : Bool) (x : OutRes) (out : List ℕ) → Late x → Late (if b then record { answer = t.Refused 17; out = out } else x)
+short_first : (b : Bool) (x : OutRes) (out : List ℕ) → Late x → Late (if b then record { answer = Err why.ResultTooShort; out = out } else x)
 unfolding among
 short_first true x out p = refl
 short_first false x out p = p
 
 order_first : (g : Bool) (x : OutRes) (out : List ℕ) → Late x
-    → Says (if g then 0 else 19) (told_number (if g then x else record { answer = t.Refused 19; out = out }).answer)
-order_first true x out p = late_says (told_number x.answer) p
+    → Says (if g then 0 else 19) (answer_number (if g then x else record { answer = Err why.NotInOrder; out = out }).answer)
+order_first true x out p = late_says (answer_number x.answer) p
 order_first false x out p = says_itself 19
 
 pub trace_says : (m : Vm) (s : Stores) (stack : List ℕ) (frames : List Frame) (out : List ℕ) (g : Bool) → g ≡ trace_order m s stack frames
-    → Says (if g then 0 else 19) (told_number (backtrace_in m s stack frames out).answer)
+    → Says (if g then 0 else 19) (answer_number (backtrace_in m s stack frames out).answer)
 unfolding backtrace_in backtrace_of
 trace_says m s stack frames out g e =
     let fs = functions_from m.program.functions 0 s in
@@ -94,28 +91,27 @@ module _ (m : Vm) (s : Stores) (l : Lent) where
 
 -- ---- making a machine
 
-emitted_unmade : (x : Emitted) (s' s : Stores) (rs : List Frame) (why : ℕ) (w a : List ℕ)
-    → record { number = why; vm = w; answer = a } ≡ unmade why (start_with (as_loaded x) s' s rs).answer w a
+new_by : (fits : Bool) (c : Counts) (n : ℕ) (s' s : Stores) (rs : List Frame) (k : ℕ) (w a : List ℕ)
+    → (let x : Res = if fits then done c n s' else refuse why.StoreFull s in record { number = k; vm = w; answer = a } ≡ unmade k (start_with (as_loaded x.answer) x.stores s rs).answer w a)
 unfolding unmade start_with as_loaded
-emitted_unmade (e.Done c n) s' s [] why w a = refl
-emitted_unmade (e.Done c n) s' s (r ∷ rs) why w a = refl
-emitted_unmade (e.Refused n) s' s rs why w a = refl
-
-loaded_unmade : (x : Loaded) (s' s : Stores) (rs : List Frame) (why : ℕ) (w a : List ℕ)
-    → unmade why (start_with x s' s []).answer w a ≡ unmade why (start_with x s' s rs).answer w a
-unfolding unmade start_with
-loaded_unmade (l.Done c) s' s [] why w a = refl
-loaded_unmade (l.Done c) s' s (r ∷ rs) why w a = refl
-loaded_unmade (l.Broken i) s' s rs why w a = refl
-loaded_unmade (l.Refused n) s' s rs why w a = refl
+new_by true c n s' s [] k w a = refl
+new_by true c n s' s (r ∷ rs) k w a = refl
+new_by false c n s' s rs k w a = refl
 
 -- a new machine is of no image
-pub new_unmade : (s : Stores) (rs : List Frame) (why : ℕ) (w a : List ℕ) → record { number = why; vm = w; answer = a } ≡ unmade why (new_machine_of false s rs).answer w a
-unfolding new_machine_of unless_running
-new_unmade s rs why w a = emitted_unmade (new_of s).answer (new_of s).stores s rs why w a
+pub new_unmade : (s : Stores) (rs : List Frame) (k : ℕ) (w a : List ℕ) → record { number = k; vm = w; answer = a } ≡ unmade k (new_machine_of false s rs).answer w a
+unfolding new_machine_of unless_running new_of
+new_unmade s rs k w a = new_by _ _ _ _ s rs k w a
+
+loaded_unmade : (x : Result Counts Refusal) (s' s : Stores) (rs : List Frame) (k : ℕ) (w a : List ℕ)
+    → unmade k (start_with x s' s []).answer w a ≡ unmade k (start_with x s' s rs).answer w a
+unfolding unmade start_with
+loaded_unmade (Ok c) s' s [] k w a = refl
+loaded_unmade (Ok c) s' s (r ∷ rs) k w a = refl
+loaded_unmade (Err e) s' s rs k w a = refl
 
 -- what is wrong with an image is so beside any frame store
-pub load_unmade : (image : List ℕ) (s : Stores) (rs : List Frame) (why : ℕ) (w a : List ℕ) {x : Started} → x ≡ (load_machine_of false image s []).answer → {c : Coded}
-    → c ≡ unmade why x w a → c ≡ unmade why (load_machine_of false image s rs).answer w a
+pub load_unmade : (image : List ℕ) (s : Stores) (rs : List Frame) (k : ℕ) (w a : List ℕ) {x : Result Vm Refusal} → x ≡ (load_machine_of false image s []).answer → {c : Coded}
+    → c ≡ unmade k x w a → c ≡ unmade k (load_machine_of false image s rs).answer w a
 unfolding load_machine_of unless_running
-load_unmade image s rs why w a ex ec = ec ∙ rw ex (loaded_unmade (load_of image s).answer (load_of image s).stores s rs why w a)
+load_unmade image s rs k w a ex ec = ec ∙ rw ex (loaded_unmade (load_of image s).answer (load_of image s).stores s rs k w a)

@@ -51,8 +51,7 @@ fn check_program(
         other,
         other_places,
     );
-    let n = tell_checked(checked, vm, answer);
-    n
+    tell_checked(checked, vm, answer)
 }
 
 // An image, checked: what passes is loaded as a fresh machine, with each function's greatest height beside it.

@@ -25,7 +25,7 @@ pub extern "C" fn chaffwheel_add_op(
         result vm.new answer.new
         (λ (rest : Stores). code_lent rest functions.new main.new main_places.new other.new other_places.new) }
 {
-    let n = embed_code::add_op(
+    embed_code::add_op(
         vm,
         op,
         place,
@@ -35,8 +35,7 @@ pub extern "C" fn chaffwheel_add_op(
         other,
         other_places,
         answer,
-    );
-    n
+    )
 }
 
 // Appends an opcode and an operand.
@@ -58,7 +57,7 @@ pub extern "C" fn chaffwheel_add_op1(
         result vm.new answer.new
         (λ (rest : Stores). code_lent rest functions.new main.new main_places.new other.new other_places.new) }
 {
-    let n = embed_code::add_op1(
+    embed_code::add_op1(
         vm,
         op,
         a,
@@ -69,8 +68,7 @@ pub extern "C" fn chaffwheel_add_op1(
         other,
         other_places,
         answer,
-    );
-    n
+    )
 }
 
 // Appends an opcode and two operands.
@@ -93,7 +91,7 @@ pub extern "C" fn chaffwheel_add_op2(
         result vm.new answer.new
         (λ (rest : Stores). code_lent rest functions.new main.new main_places.new other.new other_places.new) }
 {
-    let n = embed_code::add_op2(
+    embed_code::add_op2(
         vm,
         op,
         a,
@@ -105,8 +103,7 @@ pub extern "C" fn chaffwheel_add_op2(
         other,
         other_places,
         answer,
-    );
-    n
+    )
 }
 
 // Appends an opcode and three operands.
@@ -130,7 +127,7 @@ pub extern "C" fn chaffwheel_add_op3(
         result vm.new answer.new
         (λ (rest : Stores). code_lent rest functions.new main.new main_places.new other.new other_places.new) }
 {
-    let n = embed_code::add_op3(
+    embed_code::add_op3(
         vm,
         op,
         a,
@@ -143,8 +140,7 @@ pub extern "C" fn chaffwheel_add_op3(
         other,
         other_places,
         answer,
-    );
-    n
+    )
 }
 
 // Overwrites two bytes of the code of the current function.
@@ -162,8 +158,7 @@ pub extern "C" fn chaffwheel_patch_u16_value_at(
         (λ (rest : Stores). bytes_lent rest functions.now main.old other.old)
         result vm.new answer.new (λ (rest : Stores). bytes_lent rest functions.now main.new other.new) }
 {
-    let n = embed_code::patch_u16_value_at(vm, offset, arg, functions, main, other, answer);
-    n
+    embed_code::patch_u16_value_at(vm, offset, arg, functions, main, other, answer)
 }
 
 // Appends a scalar to the constants: its 64 bits, kept as they are.
@@ -179,8 +174,7 @@ pub extern "C" fn chaffwheel_add_scalar(
         (λ (rest : Stores). constants_lent rest constants.old text.old)
         result vm.new answer.new (λ (rest : Stores). constants_lent rest constants.new text.new) }
 {
-    let n = embed_tables::add_scalar(vm, bits, constants, text, answer);
-    n
+    embed_tables::add_scalar(vm, bits, constants, text, answer)
 }
 
 // Appends a boolean to the constants.
@@ -196,8 +190,7 @@ pub extern "C" fn chaffwheel_add_boolean(
         (λ (rest : Stores). constants_lent rest constants.old text.old)
         result vm.new answer.new (λ (rest : Stores). constants_lent rest constants.new text.new) }
 {
-    let n = embed_tables::add_boolean(vm, value, constants, text, answer);
-    n
+    embed_tables::add_boolean(vm, value, constants, text, answer)
 }
 
 // Appends a string to the constants.
@@ -213,8 +206,7 @@ pub extern "C" fn chaffwheel_add_string(
         (λ (rest : Stores). constants_lent rest constants.old text.old)
         result vm.new answer.new (λ (rest : Stores). constants_lent rest constants.new text.new) }
 {
-    let n = embed_tables::add_string(vm, lent, constants, text, answer);
-    n
+    embed_tables::add_string(vm, lent, constants, text, answer)
 }
 
 // Appends a function reference to the constants.
@@ -230,8 +222,7 @@ pub extern "C" fn chaffwheel_add_reference(
         (λ (rest : Stores). constants_lent rest constants.old text.old)
         result vm.new answer.new (λ (rest : Stores). constants_lent rest constants.new text.new) }
 {
-    let n = embed_tables::add_reference(vm, lent, constants, text, answer);
-    n
+    embed_tables::add_reference(vm, lent, constants, text, answer)
 }
 
 // The number of a struct name, which is added where it is not known.
@@ -247,8 +238,7 @@ pub extern "C" fn chaffwheel_add_struct_info(
         (λ (rest : Stores). structs_lent rest structs.old text.old)
         result vm.new answer.new (λ (rest : Stores). structs_lent rest structs.new text.new) }
 {
-    let n = embed_tables::add_struct_info(vm, name, structs, text, answer);
-    n
+    embed_tables::add_struct_info(vm, name, structs, text, answer)
 }
 
 // Begins a function, which is then current.
@@ -264,8 +254,7 @@ pub extern "C" fn chaffwheel_begin_function(
         (λ (rest : Stores). names_lent rest functions.old text.old)
         result vm.new answer.new (λ (rest : Stores). names_lent rest functions.new text.new) }
 {
-    let n = embed_tables::begin_function(vm, name, functions, text, answer);
-    n
+    embed_tables::begin_function(vm, name, functions, text, answer)
 }
 
 // Makes main current.
@@ -275,8 +264,7 @@ pub extern "C" fn chaffwheel_end_function(vm: &mut [u64], answer: &mut [u64]) ->
         ≡ through at_entry (slices_refusal vm.old 1 answer.old) vm.old answer.old
         (emitted_coded (end_function_of (vm_in vm.old).run.on (vm_in vm.old).program) vm.old answer.old) }
 {
-    let n = embed_tables::end_function(vm, answer);
-    n
+    embed_tables::end_function(vm, answer)
 }
 
 // The length of the code of the current function.
@@ -290,8 +278,7 @@ pub extern "C" fn chaffwheel_current_offset(
         ≡ through at_entry (slices_refusal vm.now 1 answer.old) vm.now answer.old
         (told_coded (current_offset_of (vm_in vm.now).program functions.now) vm.now answer.old) }
 {
-    let n = embed_code::current_offset(vm, functions, answer);
-    n
+    embed_code::current_offset(vm, functions, answer)
 }
 
 // The newest function of a name.
@@ -308,6 +295,5 @@ pub extern "C" fn chaffwheel_get_function_idx(
         (told_coded (function_idx_of (vm_in vm.now).program name.now (names_lent rest functions.now text.now))
         vm.now answer.old) }
 {
-    let n = embed_tables::get_function_idx(vm, name, functions, text, answer);
-    n
+    embed_tables::get_function_idx(vm, name, functions, text, answer)
 }

@@ -22,6 +22,7 @@ use embed_refusals::{
     crossed_idle, crossed_order, crossed_running, out_refusal, record_ok, slices_refusal,
 };
 use embed_words::vm_of;
+use layout::lent::ProgramStores;
 use machine::running::order;
 use machine::starting::no_place;
 use machine::tracing::trace_order;
@@ -47,8 +48,7 @@ pub extern "C" fn chaffwheel_new(
     let why = out_refusal(vm, 1, answer);
     if why == 0 {
         let made = new(false, functions, text, frames);
-        let n = tell_started(made, vm, answer);
-        return n;
+        return tell_started(made, vm, answer);
     }
     why
 }
@@ -105,11 +105,9 @@ pub extern "C" fn chaffwheel_load(
             other_places,
             frames,
         );
-        let n = tell_started(made, vm, answer);
-        return n;
+        return tell_started(made, vm, answer);
     }
-    let n = unloaded(why, image, answer);
-    n
+    unloaded(why, image, answer)
 }
 
 // Whether the machine is strict from now on. It tells nothing, so no words are asked for an answer; and no backtrace is written, so what is promised is so
@@ -137,27 +135,21 @@ pub extern "C" fn chaffwheel_set_strict(
         main.now main_places.now other.now other_places.now)
         (run_lent stack.now cells.now frames.now copy.now trace)) vm.old []) }
 {
+    let stores = ProgramStores {
+        constants,
+        structs,
+        functions,
+        text,
+        main,
+        main_places,
+        other,
+        other_places,
+    };
     let good = record_ok(vm);
     if good {
         let m = vm_of(vm);
-        let changed = set_strict(
-            m,
-            strict,
-            constants,
-            structs,
-            functions,
-            text,
-            main,
-            main_places,
-            other,
-            other_places,
-            stack,
-            cells,
-            frames,
-            copy,
-        );
-        let n = tell_changed(changed, vm);
-        return n;
+        let changed = set_strict(m, strict, &stores, stack, cells, frames, copy);
+        return tell_changed(changed, vm);
     }
     19
 }
@@ -188,29 +180,7 @@ pub extern "C" fn chaffwheel_begin(
         (record { number = result; vm = vm.new; answer = answer.new })
         (run_lent stack.now cells.now frames.new copy.new trace) }
 {
-    let why = slices_refusal(vm, 5, answer);
-    let m = vm_of(vm);
-    if why == 0 {
-        let result = begin(
-            m,
-            constants,
-            structs,
-            functions,
-            text,
-            main,
-            main_places,
-            other,
-            other_places,
-            stack,
-            cells,
-            frames,
-            copy,
-        );
-        let n = tell_run(result, vm, answer);
-        return n;
-    }
-    let good = order(
-        m,
+    let stores = ProgramStores {
         constants,
         structs,
         functions,
@@ -219,13 +189,15 @@ pub extern "C" fn chaffwheel_begin(
         main_places,
         other,
         other_places,
-        stack,
-        cells,
-        frames,
-        copy,
-    );
-    let n = crossed_running(why, m, good);
-    n
+    };
+    let why = slices_refusal(vm, 5, answer);
+    let m = vm_of(vm);
+    if why == 0 {
+        let result = begin(m, &stores, stack, cells, frames, copy);
+        return tell_run(result, vm, answer);
+    }
+    let good = order(m, &stores, stack, cells, frames, copy);
+    crossed_running(why, m, good)
 }
 
 // The machine's run goes on, with `units` more.
@@ -255,31 +227,7 @@ pub extern "C" fn chaffwheel_continue(
         (record { number = result; vm = vm.new; answer = answer.new })
         (run_lent stack.new cells.new frames.new copy.now trace.new) }
 {
-    let why = slices_refusal(vm, 5, answer);
-    let m = vm_of(vm);
-    if why == 0 {
-        let result = continue_run(
-            m,
-            units,
-            constants,
-            structs,
-            functions,
-            text,
-            main,
-            main_places,
-            other,
-            other_places,
-            stack,
-            cells,
-            frames,
-            copy,
-            trace,
-        );
-        let n = tell_run(result, vm, answer);
-        return n;
-    }
-    let good = order(
-        m,
+    let stores = ProgramStores {
         constants,
         structs,
         functions,
@@ -288,13 +236,15 @@ pub extern "C" fn chaffwheel_continue(
         main_places,
         other,
         other_places,
-        stack,
-        cells,
-        frames,
-        copy,
-    );
-    let n = crossed_idle(why, m, good);
-    n
+    };
+    let why = slices_refusal(vm, 5, answer);
+    let m = vm_of(vm);
+    if why == 0 {
+        let result = continue_run(m, units, &stores, stack, cells, frames, copy, trace);
+        return tell_run(result, vm, answer);
+    }
+    let good = order(m, &stores, stack, cells, frames, copy);
+    crossed_idle(why, m, good)
 }
 
 // The machine's run is abandoned.
@@ -323,30 +273,7 @@ pub extern "C" fn chaffwheel_abandon(
         (record { number = result; vm = vm.new; answer = answer.new })
         (run_lent stack.new cells.now frames.new copy.now trace.new) }
 {
-    let why = slices_refusal(vm, 5, answer);
-    let m = vm_of(vm);
-    if why == 0 {
-        let result = abandon(
-            m,
-            constants,
-            structs,
-            functions,
-            text,
-            main,
-            main_places,
-            other,
-            other_places,
-            stack,
-            cells,
-            frames,
-            copy,
-            trace,
-        );
-        let n = tell_run(result, vm, answer);
-        return n;
-    }
-    let good = order(
-        m,
+    let stores = ProgramStores {
         constants,
         structs,
         functions,
@@ -355,13 +282,15 @@ pub extern "C" fn chaffwheel_abandon(
         main_places,
         other,
         other_places,
-        stack,
-        cells,
-        frames,
-        copy,
-    );
-    let n = crossed_idle(why, m, good);
-    n
+    };
+    let why = slices_refusal(vm, 5, answer);
+    let m = vm_of(vm);
+    if why == 0 {
+        let result = abandon(m, &stores, stack, cells, frames, copy, trace);
+        return tell_run(result, vm, answer);
+    }
+    let good = order(m, &stores, stack, cells, frames, copy);
+    crossed_idle(why, m, good)
 }
 
 // The backtrace of the machine's frames.
@@ -400,8 +329,7 @@ pub extern "C" fn chaffwheel_backtrace(
             frames,
             out,
         );
-        let n = tell(told, answer);
-        return n;
+        return tell(told, answer);
     }
     let good = trace_order(
         m,
@@ -414,12 +342,12 @@ pub extern "C" fn chaffwheel_backtrace(
         stack,
         frames,
     );
-    let n = crossed_order(why, good);
-    n
+    crossed_order(why, good)
 }
 
 // The image of the program.
 #[unsafe(no_mangle)]
+#[tactic(auto, unfolding(layout::specs::Lent::program_lent))]
 pub extern "C" fn chaffwheel_save(
     vm: &[u64],
     constants: &[u64],
@@ -438,8 +366,7 @@ pub extern "C" fn chaffwheel_save(
         (λ (m : Vm). save_of m.program (lent constants.now structs.now functions.now text.now
         main.now main_places.now other.now other_places.now) out.old) }
 {
-    let n = embed_images::save(
-        vm,
+    let stores = ProgramStores {
         constants,
         structs,
         functions,
@@ -448,10 +375,8 @@ pub extern "C" fn chaffwheel_save(
         main_places,
         other,
         other_places,
-        out,
-        answer,
-    );
-    n
+    };
+    embed_images::save(vm, &stores, out, answer)
 }
 
 // The listing of the program.
@@ -469,6 +394,5 @@ pub extern "C" fn chaffwheel_disassemble<'a>(
         ≡ out_through at_listing (slices_refusal vm.now 1 answer.old) vm.now answer.old out.old
         (λ (m : Vm). list_of m.program (listed rest functions.now text.now main.now other.now) out.old) }
 {
-    let n = embed_images::disassemble(vm, functions, text, main, other, out, answer);
-    n
+    embed_images::disassemble(vm, functions, text, main, other, out, answer)
 }

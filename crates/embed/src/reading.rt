@@ -12,8 +12,7 @@ pub extern "C" fn chaffwheel_last_result(vm: &[u64], answer: &mut [u64]) -> u32
         ≡ through at_entry (slices_refusal vm.now 2 answer.old) vm.now answer.old
         (shown_coded (last_result_of (vm_in vm.now)) vm.now answer.old) }
 {
-    let n = embed_reading::last_result(vm, answer);
-    n
+    embed_reading::last_result(vm, answer)
 }
 
 // The value at i, from the bottom of the stack.
@@ -28,8 +27,7 @@ pub extern "C" fn chaffwheel_stack_value(
         ≡ through at_entry (slices_refusal vm.now 2 answer.old) vm.now answer.old
         (shown_coded (stack_value_of (vm_in vm.now) i stack.now) vm.now answer.old) }
 {
-    let n = embed_reading::stack_value(vm, i, stack, answer);
-    n
+    embed_reading::stack_value(vm, i, stack, answer)
 }
 
 // The header of a list or struct: how many elements it has, the struct's number, and the depth.
@@ -45,8 +43,7 @@ pub extern "C" fn chaffwheel_block_header(
         ≡ through at_entry (value_refusal vm.now kind payload 3 answer.old) vm.now answer.old
         (headed_coded (block_header_of (vm_in vm.now) (value_of kind payload) cells.now) vm.now answer.old) }
 {
-    let n = embed_reading::block_header(vm, kind, payload, cells, answer);
-    n
+    embed_reading::block_header(vm, kind, payload, cells, answer)
 }
 
 // Element i of a list, or field i of a struct.
@@ -63,8 +60,7 @@ pub extern "C" fn chaffwheel_element(
         ≡ through at_entry (value_refusal vm.now kind payload 2 answer.old) vm.now answer.old
         (shown_coded (element_of (vm_in vm.now) (value_of kind payload) i cells.now) vm.now answer.old) }
 {
-    let n = embed_reading::element(vm, kind, payload, i, cells, answer);
-    n
+    embed_reading::element(vm, kind, payload, i, cells, answer)
 }
 
 // The bytes of a string or a function reference, into out, and how many they are.
@@ -81,6 +77,5 @@ pub extern "C" fn chaffwheel_text(
         ≡ out_through at_entry (value_refusal vm.now kind payload 1 answer.old) vm.now answer.old out.old
         (λ (m : Vm). text_bytes_of m (value_of kind payload) text.now out.old) }
 {
-    let n = embed_reading::text(vm, kind, payload, text, out, answer);
-    n
+    embed_reading::text(vm, kind, payload, text, out, answer)
 }

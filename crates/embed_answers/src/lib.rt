@@ -1,17 +1,20 @@
 // The entries' answers as words in lent slices: what an entry tells a host in C.
 #![tactic(auto)]
 
-ghost use Rattle.std.specs.Prelude.{◌≡◌, List, [], ◌∷◌, ℕ, set};
+ghost use Rattle.std.specs.Prelude.{◌≡◌, List, [], ◌∷◌, ℕ, Result, set};
 ghost use Rattle.model.specs.Basics.{written};
-ghost use Rattle.model.specs.Answers.{told_number, shown_number, headed_number};
-ghost use Rattle.embed_words.specs.Coding.{at_entry, at_listing, run_coded, started_coded, changed_coded, unmade, emitted_coded, told_coded, shown_coded, headed_coded, through};
+ghost use Rattle.model.specs.Values.{kind, payload};
+ghost use Rattle.model.specs.declared.Refusal.{Refusal};
+ghost use Rattle.embed_words.specs.Coding.{Coded, at_entry, at_listing, run_coded, started_coded, changed_coded, unmade, emitted_coded, told_coded, shown_coded, headed_coded, through};
+ghost use Rattle.embed_answers.specs.Telling.{words_coded, told_is, shown_is, headed_is};
 
-use embed_refusals::{crossed, crossed_listing};
+use embed_refusals::{at_entry, at_listing, crossed};
 use embed_words::{put, put_counts, put_vm};
-use model::{Changed, Emitted, Headed, RunResult, Shown, Started, Tally, Told};
+use model::{Counts, Halt, Header, Refusal, Tally, Value, Vm, answer_number};
 use value::words::{kind_of, payload_of};
 
 // What a part of a run came to, what the run did, and two words more.
+#[tactic(auto, unfolding(model::specs::Basics::written))]
 fn put_run(answer: &mut [u64], outcome: u64, did: Tally, a: u64, b: u64)
     ensures { answer.new ≡ written answer.old 0 (outcome ∷ did.spent ∷ did.returns ∷ a ∷ b ∷ []) }
 {
@@ -23,42 +26,41 @@ fn put_run(answer: &mut [u64], outcome: u64, did: Tally, a: u64, b: u64)
 }
 
 // What a part of a run answers.
-pub fn tell_run(res: RunResult, vm: &mut [u64], answer: &mut [u64]) -> u32
+#[tactic(auto, unfolding(embed_words::specs::Coding::run_coded, embed_words::specs::Coding::run_words))]
+pub fn tell_run(res: Result<Halt, Refusal>, vm: &mut [u64], answer: &mut [u64]) -> u32
     ensures { record { number = result; vm = vm.new; answer = answer.new } ≡ run_coded res vm.old answer.old }
 {
     match res {
-        RunResult::Value(m, v, did) => {
-            let kind = kind_of(v);
-            let payload = payload_of(v);
+        Ok(Halt::Value(m, v, did)) => {
             put_vm(m, vm);
-            put_run(answer, 1, did, kind, payload);
+            put_run(answer, 1, did, kind_of(v), payload_of(v));
             0
         }
-        RunResult::Continue(m, did) => {
+        Ok(Halt::Continue(m, did)) => {
             put_vm(m, vm);
             put_run(answer, 2, did, 0, 0);
             0
         }
-        RunResult::Fault(m, k, did, j) => {
+        Ok(Halt::Fault(m, k, did, j)) => {
             put_vm(m, vm);
-            put_run(answer, 3, did, k as u64, j as u64);
+            put_run(answer, 3, did, u64::from(k), j as u64);
             0
         }
-        RunResult::Paused(m) => {
-            let run = m.run;
+        Ok(Halt::Paused(m)) => {
             let did = Tally {
-                spent: run.spent,
-                returns: run.returns,
+                spent: m.run.spent,
+                returns: m.run.returns,
             };
             put_vm(m, vm);
             put_run(answer, 4, did, 0, 0);
             0
         }
-        RunResult::Refused(n) => n as u32,
+        Err(e) => u32::from(e.number()),
     }
 }
 
 // Of an image that breaks a rule: the offset, where the answer has a word.
+#[tactic(auto, unfolding(model::specs::Basics::written))]
 fn tell_broken(i: usize, answer: &mut [u64]) -> u32
     ensures { (result ≡ 20) × (answer.new ≡ set answer.old 0 i) }
 {
@@ -67,181 +69,163 @@ fn tell_broken(i: usize, answer: &mut [u64]) -> u32
 }
 
 // What making a machine answers.
-pub fn tell_started(res: Started, vm: &mut [u64], answer: &mut [u64]) -> u32
+#[tactic(auto, unfolding(embed_words::specs::Coding::started_coded, model::specs::Basics::written))]
+pub fn tell_started(res: Result<Vm, Refusal>, vm: &mut [u64], answer: &mut [u64]) -> u32
     ensures { record { number = result; vm = vm.new; answer = answer.new } ≡ started_coded res vm.old answer.old }
 {
     match res {
-        Started::Done(m) => {
+        Ok(m) => {
             put_vm(m, vm);
             0
         }
-        Started::Broken(i) => tell_broken(i, answer),
-        Started::Refused(n) => n as u32,
+        Err(Refusal::BrokenImage(i)) => tell_broken(i, answer),
+        Err(e) => u32::from(e.number()),
     }
 }
 
 // The same where the record refuses: a broken image comes before a record or an answer that is too short. vm is any record.
-pub fn tell_unmade(why: u32, res: Started, answer: &mut [u64]) -> u32
+#[tactic(auto, unfolding(embed_words::specs::Coding::unmade, embed_words::specs::Coding::started_coded, model::specs::Basics::written))]
+pub fn tell_unmade(why: u32, res: Result<Vm, Refusal>, answer: &mut [u64]) -> u32
     ensures { (w : List ℕ) → record { number = result; vm = w; answer = answer.new } ≡ unmade why res w answer.old }
 {
     match res {
-        Started::Done(m) => why,
-        Started::Broken(offset) => {
-            if why == 17 {
-                return tell_broken(offset, answer);
-            }
-            why
-        }
-        Started::Refused(n) => why,
+        Err(Refusal::BrokenImage(offset)) if why == 17 => tell_broken(offset, answer),
+        _ => why,
     }
 }
 
 // What changing the setting answers. It tells nothing besides: the answer is any.
-pub fn tell_changed(res: Changed, vm: &mut [u64]) -> u32
+#[tactic(auto, unfolding(embed_words::specs::Coding::changed_coded))]
+pub fn tell_changed(res: Result<Vm, Refusal>, vm: &mut [u64]) -> u32
     ensures { (a : List ℕ) → record { number = result; vm = vm.new; answer = a } ≡ changed_coded res vm.old a }
 {
     match res {
-        Changed::Done(m) => {
+        Ok(m) => {
             put_vm(m, vm);
             0
         }
-        Changed::Refused(n) => n as u32,
+        Err(e) => u32::from(e.number()),
     }
 }
 
 // What an emission entry answers.
-pub fn tell_emitted(res: Emitted, vm: &mut [u64], answer: &mut [u64]) -> u32
+#[tactic(auto, unfolding(embed_words::specs::Coding::emitted_coded, model::specs::Basics::written))]
+pub fn tell_emitted(
+    res: Result<(Counts, usize), Refusal>,
+    vm: &mut [u64],
+    answer: &mut [u64],
+) -> u32
     ensures { record { number = result; vm = vm.new; answer = answer.new } ≡ emitted_coded res vm.old answer.old }
 {
     match res {
-        Emitted::Done(c, n) => {
+        Ok((c, n)) => {
             put_counts(c, vm);
             put(answer, 0, n as u64);
             0
         }
-        Emitted::Refused(n) => n as u32,
+        Err(e) => u32::from(e.number()),
     }
 }
 
-// What an entry that tells a number answers; vm is any record.
-pub fn tell(res: Told, answer: &mut [u64]) -> u32
-    ensures { (w : List ℕ) → record { number = result; vm = w; answer = answer.new } ≡ told_coded res w answer.old }
+// What an entry answers that tells only words, and writes nothing of the record. The entries above stay apart: each writes its own part of the record,
+// and a machine is told in two ways (made, and changed), so that nothing but the line of a refusal would be shared.
+pub trait Telling: Copy {
+    ghost words: { Self → List ℕ };
+
+    ghost coded: { Result Self Refusal → List ℕ → List ℕ → Coded };
+
+    fn put_words(self, answer: &mut [u64])
+        ensures { answer.new ≡ written answer.old 0 (words self) };
+
+    ghost coded_is: { (x : Result Self Refusal) (w a : List ℕ) → coded x w a ≡ words_coded words x w a };
+}
+
+// A number.
+impl Telling for usize {
+    ghost words = { λ n. n ∷ [] };
+
+    ghost coded = { told_coded };
+
+    #[tactic(auto, unfolding(model::specs::Basics::written))]
+    fn put_words(self, answer: &mut [u64]) {
+        put(answer, 0, self as u64);
+    }
+
+    ghost coded_is = { told_is };
+}
+
+// A value as its kind and its payload.
+impl Telling for Value {
+    ghost words = { λ v. kind v ∷ payload v ∷ [] };
+
+    ghost coded = { shown_coded };
+
+    #[tactic(auto, unfolding(model::specs::Basics::written))]
+    fn put_words(self, answer: &mut [u64]) {
+        put(answer, 0, kind_of(self));
+        put(answer, 1, payload_of(self));
+    }
+
+    ghost coded_is = { shown_is };
+}
+
+// A header.
+impl Telling for Header {
+    ghost words = { λ x. x.count ∷ x.number ∷ x.depth ∷ [] };
+
+    ghost coded = { headed_coded };
+
+    #[tactic(auto, unfolding(model::specs::Basics::written))]
+    fn put_words(self, answer: &mut [u64]) {
+        put(answer, 0, self.count as u64);
+        put(answer, 1, self.number as u64);
+        put(answer, 2, self.depth as u64);
+    }
+
+    ghost coded_is = { headed_is };
+}
+
+// What such an entry answers; vm is any record.
+pub fn tell<T: Telling>(res: Result<T, Refusal>, answer: &mut [u64]) -> u32
+    ensures { (w : List ℕ) → record { number = result; vm = w; answer = answer.new } ≡ T.coded res w answer.old }
 {
     match res {
-        Told::Number(n) => {
-            put(answer, 0, n as u64);
+        Ok(told) => {
+            told.put_words(answer);
             0
         }
-        Told::Refused(n) => n as u32,
+        Err(e) => u32::from(e.number()),
     }
 }
 
-fn told_number(res: Told) -> u8
-    ensures { result ≡ told_number res }
-{
-    match res {
-        Told::Number(n) => 0,
-        Told::Refused(n) => n,
-    }
-}
-
-// The same, unless what crosses is refused.
-pub fn answer_told(why: u32, res: Told, answer: &mut [u64]) -> u32
+// The same, unless what crosses is refused: `firsts` are the numbers of the entry itself that come before a short answer.
+#[tactic(auto, unfolding(embed_words::specs::Coding::through))]
+fn answer_by<T: Telling>(
+    firsts: &[u8],
+    why: u32,
+    res: Result<T, Refusal>,
+    answer: &mut [u64],
+) -> u32
     ensures { (w : List ℕ) → record { number = result; vm = w; answer = answer.new }
-        ≡ through at_entry why w answer.old (told_coded res w answer.old) }
+        ≡ through firsts.now why w answer.old (T.coded res w answer.old) }
 {
     if why == 0 {
-        let n = tell(res, answer);
-        return n;
+        return tell(res, answer);
     }
-    let own = told_number(res);
-    crossed(why, own)
+    crossed(firsts, why, answer_number(res))
+}
+
+pub fn answer_told<T: Telling>(why: u32, res: Result<T, Refusal>, answer: &mut [u64]) -> u32
+    ensures { (w : List ℕ) → record { number = result; vm = w; answer = answer.new }
+        ≡ through at_entry why w answer.old (T.coded res w answer.old) }
+{
+    answer_by(&at_entry(), why, res, answer)
 }
 
 // The same of the listing.
-pub fn answer_listed(why: u32, res: Told, answer: &mut [u64]) -> u32
+pub fn answer_listed(why: u32, res: Result<usize, Refusal>, answer: &mut [u64]) -> u32
     ensures { (w : List ℕ) → record { number = result; vm = w; answer = answer.new }
         ≡ through at_listing why w answer.old (told_coded res w answer.old) }
 {
-    if why == 0 {
-        let n = tell(res, answer);
-        return n;
-    }
-    let own = told_number(res);
-    crossed_listing(why, own)
-}
-
-// What an entry that shows a value answers; vm is any record.
-fn tell_shown(res: Shown, answer: &mut [u64]) -> u32
-    ensures { (w : List ℕ) → record { number = result; vm = w; answer = answer.new } ≡ shown_coded res w answer.old }
-{
-    match res {
-        Shown::Value(v) => {
-            let kind = kind_of(v);
-            let payload = payload_of(v);
-            put(answer, 0, kind);
-            put(answer, 1, payload);
-            0
-        }
-        Shown::Refused(n) => n as u32,
-    }
-}
-
-fn shown_number(res: Shown) -> u8
-    ensures { result ≡ shown_number res }
-{
-    match res {
-        Shown::Value(v) => 0,
-        Shown::Refused(n) => n,
-    }
-}
-
-// The same, unless what crosses is refused.
-pub fn answer_shown(why: u32, res: Shown, answer: &mut [u64]) -> u32
-    ensures { (w : List ℕ) → record { number = result; vm = w; answer = answer.new }
-        ≡ through at_entry why w answer.old (shown_coded res w answer.old) }
-{
-    if why == 0 {
-        let n = tell_shown(res, answer);
-        return n;
-    }
-    let own = shown_number(res);
-    crossed(why, own)
-}
-
-// What an entry that tells a header answers; vm is any record.
-fn tell_header(res: Headed, answer: &mut [u64]) -> u32
-    ensures { (w : List ℕ) → record { number = result; vm = w; answer = answer.new } ≡ headed_coded res w answer.old }
-{
-    match res {
-        Headed::Is(h) => {
-            put(answer, 0, h.count as u64);
-            put(answer, 1, h.number as u64);
-            put(answer, 2, h.depth as u64);
-            0
-        }
-        Headed::Refused(n) => n as u32,
-    }
-}
-
-fn headed_number(res: Headed) -> u8
-    ensures { result ≡ headed_number res }
-{
-    match res {
-        Headed::Is(h) => 0,
-        Headed::Refused(n) => n,
-    }
-}
-
-// The same, unless what crosses is refused.
-pub fn answer_header(why: u32, res: Headed, answer: &mut [u64]) -> u32
-    ensures { (w : List ℕ) → record { number = result; vm = w; answer = answer.new }
-        ≡ through at_entry why w answer.old (headed_coded res w answer.old) }
-{
-    if why == 0 {
-        let n = tell_header(res, answer);
-        return n;
-    }
-    let own = headed_number(res);
-    crossed(why, own)
+    answer_by(&at_listing(), why, res, answer)
 }

@@ -13,7 +13,8 @@ use embed_refusals::{crossed_running, slices_refusal};
 use embed_words::vm_of;
 use emission_code::{code_order, patch_order};
 
-// Appends an opcode to the code of the current function, with the given place.
+// Appends an opcode to the code of the current function, with the given place. The four stay apart: what differs is one call that is lent five stores to write,
+// which are then judged too, so a closure for it would be lent the five anew, and each of the four would be longer than it is.
 pub fn add_op(
     vm: &mut [u64],
     op: u8,
@@ -45,12 +46,10 @@ pub fn add_op(
             other,
             other_places,
         );
-        let n = tell_emitted(done, vm, answer);
-        return n;
+        return tell_emitted(done, vm, answer);
     }
     let good = code_order(c, functions, main, main_places, other, other_places);
-    let n = crossed_running(why, m, good);
-    n
+    crossed_running(why, m, good)
 }
 
 // Appends an opcode and an operand.
@@ -87,12 +86,10 @@ pub fn add_op1(
             other,
             other_places,
         );
-        let n = tell_emitted(done, vm, answer);
-        return n;
+        return tell_emitted(done, vm, answer);
     }
     let good = code_order(c, functions, main, main_places, other, other_places);
-    let n = crossed_running(why, m, good);
-    n
+    crossed_running(why, m, good)
 }
 
 // Appends an opcode and two operands.
@@ -131,12 +128,10 @@ pub fn add_op2(
             other,
             other_places,
         );
-        let n = tell_emitted(done, vm, answer);
-        return n;
+        return tell_emitted(done, vm, answer);
     }
     let good = code_order(c, functions, main, main_places, other, other_places);
-    let n = crossed_running(why, m, good);
-    n
+    crossed_running(why, m, good)
 }
 
 // Appends an opcode and three operands.
@@ -177,12 +172,10 @@ pub fn add_op3(
             other,
             other_places,
         );
-        let n = tell_emitted(done, vm, answer);
-        return n;
+        return tell_emitted(done, vm, answer);
     }
     let good = code_order(c, functions, main, main_places, other, other_places);
-    let n = crossed_running(why, m, good);
-    n
+    crossed_running(why, m, good)
 }
 
 // Overwrites two bytes of the code of the current function.
@@ -206,12 +199,10 @@ pub fn patch_u16_value_at(
         let done = emission_code::patch_u16_value_at(
             m.run.on, c, offset, arg, functions, main, other,
         );
-        let n = tell_emitted(done, vm, answer);
-        return n;
+        return tell_emitted(done, vm, answer);
     }
     let good = patch_order(c, functions, main, other);
-    let n = crossed_running(why, m, good);
-    n
+    crossed_running(why, m, good)
 }
 
 // The length of the code of the current function.
@@ -224,6 +215,5 @@ pub fn current_offset(vm: &[u64], functions: &[u64], answer: &mut [u64]) -> u32
     let m = vm_of(vm);
     let c = m.program;
     let told = emission_code::current_offset(c, functions);
-    let n = answer_told(why, told, answer);
-    n
+    answer_told(why, told, answer)
 }

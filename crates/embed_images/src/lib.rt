@@ -3,52 +3,28 @@
 
 ghost use Rattle.std.specs.Prelude.{◌≡◌};
 ghost use Rattle.model.specs.declared.Vm.{Vm};
-ghost use Rattle.model.specs.Stores.{Stores, stores_of as lent};
+ghost use Rattle.model.specs.Stores.{Stores};
 ghost use Rattle.model.specs.Loading.{save_of, list_of};
+ghost use Rattle.layout.specs.Lent.{stores_in};
 ghost use Rattle.listing.specs.Links.{lent as listed};
 ghost use Rattle.embed_words.specs.Coding.{slices_refusal, at_entry, at_listing, out_through};
 
 use embed_answers::{answer_listed, answer_told};
 use embed_refusals::{lent_room, slices_refusal};
 use embed_words::vm_of;
+use layout::lent::ProgramStores;
 
 // The image of the program.
-pub fn save(
-    vm: &[u64],
-    constants: &[u64],
-    structs: &[u64],
-    functions: &[u64],
-    text: &[u8],
-    main: &[u8],
-    main_places: &[u32],
-    other: &[u8],
-    other_places: &[u32],
-    out: &mut [u8],
-    answer: &mut [u64],
-) -> u32
+pub fn save(vm: &[u64], stores: &ProgramStores, out: &mut [u8], answer: &mut [u64]) -> u32
     ensures { record { coded = record { number = result; vm = vm.now; answer = answer.new }; out = out.new }
         ≡ out_through at_entry (slices_refusal vm.now 1 answer.old) vm.now answer.old out.old
-        (λ (m : Vm). save_of m.program (lent constants.now structs.now functions.now text.now
-        main.now main_places.now other.now other_places.now) out.old) }
+        (λ (m : Vm). save_of m.program (stores_in stores.now) out.old) }
 {
     let why = slices_refusal(vm, 1, answer);
     let m = vm_of(vm);
-    let c = m.program;
     let room = lent_room(why, out.len());
-    let told = image_save::save(
-        c,
-        constants,
-        structs,
-        functions,
-        text,
-        main,
-        main_places,
-        other,
-        other_places,
-        &mut out[..room],
-    );
-    let n = answer_told(why, told, answer);
-    n
+    let told = image_save::save(m.program, stores, &mut out[..room]);
+    answer_told(why, told, answer)
 }
 
 // The listing of the program.
@@ -67,9 +43,7 @@ pub fn disassemble<'a>(
 {
     let why = slices_refusal(vm, 1, answer);
     let m = vm_of(vm);
-    let c = m.program;
     let room = lent_room(why, out.len());
-    let told = listing::disassemble(c, functions, text, main, other, &mut out[..room]);
-    let n = answer_listed(why, told, answer);
-    n
+    let told = listing::disassemble(m.program, functions, text, main, other, &mut out[..room]);
+    answer_listed(why, told, answer)
 }

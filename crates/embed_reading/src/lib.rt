@@ -7,7 +7,7 @@ ghost use Rattle.model.specs.Values.{value_of};
 ghost use Rattle.model.specs.Readers.{last_result_of, stack_value_of, block_header_of, element_of, text_bytes_of};
 ghost use Rattle.embed_words.specs.Coding.{vm_in, slices_refusal, at_entry, value_refusal, shown_coded, headed_coded, through, out_through};
 
-use embed_answers::{answer_header, answer_shown, answer_told};
+use embed_answers::answer_told;
 use embed_refusals::{lent_room, slices_refusal, value_refusal};
 use embed_words::vm_of;
 use readers::text_bytes;
@@ -22,8 +22,7 @@ pub fn last_result(vm: &[u64], answer: &mut [u64]) -> u32
     let why = slices_refusal(vm, 2, answer);
     let m = vm_of(vm);
     let shown = readers::last_result(m);
-    let n = answer_shown(why, shown, answer);
-    n
+    answer_told(why, shown, answer)
 }
 
 // The value at i, from the bottom of the stack.
@@ -35,8 +34,7 @@ pub fn stack_value(vm: &[u64], i: usize, stack: &[u64], answer: &mut [u64]) -> u
     let why = slices_refusal(vm, 2, answer);
     let m = vm_of(vm);
     let shown = readers::stack_value(m, i, stack);
-    let n = answer_shown(why, shown, answer);
-    n
+    answer_told(why, shown, answer)
 }
 
 // The header of a list or struct: how many elements it has, the struct's number, and the depth.
@@ -49,8 +47,7 @@ pub fn block_header(vm: &[u64], kind: u64, payload: u64, cells: &[u64], answer: 
     let m = vm_of(vm);
     let v = value_of(kind, payload);
     let headed = readers::block_header(m, v, cells);
-    let n = answer_header(why, headed, answer);
-    n
+    answer_told(why, headed, answer)
 }
 
 // Element i of a list, or field i of a struct.
@@ -70,8 +67,7 @@ pub fn element(
     let m = vm_of(vm);
     let v = value_of(kind, payload);
     let shown = readers::element(m, v, i, cells);
-    let n = answer_shown(why, shown, answer);
-    n
+    answer_told(why, shown, answer)
 }
 
 // The bytes of a string or a function reference, into out, and how many they are.
@@ -92,6 +88,5 @@ pub fn text(
     let v = value_of(kind, payload);
     let room = lent_room(why, out.len());
     let told = text_bytes(m, v, text, &mut out[..room]);
-    let n = answer_told(why, told, answer);
-    n
+    answer_told(why, told, answer)
 }

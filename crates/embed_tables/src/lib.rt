@@ -18,6 +18,30 @@ use emission_structs::struct_order;
 use model::Constant;
 use program::order::counts_ok;
 
+// Appends a constant: lent is the text of a string or a reference.
+fn emit_constant(
+    vm: &mut [u64],
+    constant: Constant,
+    lent: &[u8],
+    constants: &mut [u64],
+    text: &mut [u8],
+    answer: &mut [u64],
+) -> u32
+    ensures { Emits (λ (running : Bool) (c : Counts). add_constant_of running c constant lent.now) vm.old answer.old
+        (λ (rest : Stores). constants_lent rest constants.old text.old)
+        result vm.new answer.new (λ (rest : Stores). constants_lent rest constants.new text.new) }
+{
+    let why = slices_refusal(vm, 1, answer);
+    let m = vm_of(vm);
+    let c = m.program;
+    if why == 0 {
+        let done = add_constant(m.run.on, c, constant, lent, constants, text);
+        return tell_emitted(done, vm, answer);
+    }
+    let good = constant_order(c, constants, text);
+    crossed_running(why, m, good)
+}
+
 // Appends a scalar to the constants: its 64 bits, kept as they are.
 pub fn add_scalar(
     vm: &mut [u64],
@@ -30,17 +54,7 @@ pub fn add_scalar(
         (λ (rest : Stores). constants_lent rest constants.old text.old)
         result vm.new answer.new (λ (rest : Stores). constants_lent rest constants.new text.new) }
 {
-    let why = slices_refusal(vm, 1, answer);
-    let m = vm_of(vm);
-    let c = m.program;
-    if why == 0 {
-        let done = add_constant(m.run.on, c, Constant::Scalar(bits), b"", constants, text);
-        let n = tell_emitted(done, vm, answer);
-        return n;
-    }
-    let good = constant_order(c, constants, text);
-    let n = crossed_running(why, m, good);
-    n
+    emit_constant(vm, Constant::Scalar(bits), b"", constants, text, answer)
 }
 
 // Appends a boolean to the constants.
@@ -55,17 +69,7 @@ pub fn add_boolean(
         (λ (rest : Stores). constants_lent rest constants.old text.old)
         result vm.new answer.new (λ (rest : Stores). constants_lent rest constants.new text.new) }
 {
-    let why = slices_refusal(vm, 1, answer);
-    let m = vm_of(vm);
-    let c = m.program;
-    if why == 0 {
-        let done = add_constant(m.run.on, c, Constant::Boolean(value), b"", constants, text);
-        let n = tell_emitted(done, vm, answer);
-        return n;
-    }
-    let good = constant_order(c, constants, text);
-    let n = crossed_running(why, m, good);
-    n
+    emit_constant(vm, Constant::Boolean(value), b"", constants, text, answer)
 }
 
 // Appends a string to the constants.
@@ -80,17 +84,7 @@ pub fn add_string(
         (λ (rest : Stores). constants_lent rest constants.old text.old)
         result vm.new answer.new (λ (rest : Stores). constants_lent rest constants.new text.new) }
 {
-    let why = slices_refusal(vm, 1, answer);
-    let m = vm_of(vm);
-    let c = m.program;
-    if why == 0 {
-        let done = add_constant(m.run.on, c, Constant::String, lent, constants, text);
-        let n = tell_emitted(done, vm, answer);
-        return n;
-    }
-    let good = constant_order(c, constants, text);
-    let n = crossed_running(why, m, good);
-    n
+    emit_constant(vm, Constant::String, lent, constants, text, answer)
 }
 
 // Appends a function reference to the constants.
@@ -105,27 +99,18 @@ pub fn add_reference(
         (λ (rest : Stores). constants_lent rest constants.old text.old)
         result vm.new answer.new (λ (rest : Stores). constants_lent rest constants.new text.new) }
 {
-    let why = slices_refusal(vm, 1, answer);
-    let m = vm_of(vm);
-    let c = m.program;
-    if why == 0 {
-        let done = add_constant(
-            m.run.on,
-            c,
-            Constant::FunctionReference,
-            lent,
-            constants,
-            text,
-        );
-        let n = tell_emitted(done, vm, answer);
-        return n;
-    }
-    let good = constant_order(c, constants, text);
-    let n = crossed_running(why, m, good);
-    n
+    emit_constant(
+        vm,
+        Constant::FunctionReference,
+        lent,
+        constants,
+        text,
+        answer,
+    )
 }
 
-// The number of a struct name, which is added where it is not known.
+// The number of a struct name, which is added where it is not known. This and `begin_function` stay apart from `emit_constant`: one function for all would
+// take two closures that are lent the stores anew, one to write and one to judge, and a call of it is as long as the body here.
 pub fn add_struct_info(
     vm: &mut [u64],
     name: &[u8],
@@ -142,12 +127,10 @@ pub fn add_struct_info(
     let c = m.program;
     if why == 0 {
         let done = emission_structs::add_struct_info(m.run.on, c, name, structs, text);
-        let n = tell_emitted(done, vm, answer);
-        return n;
+        return tell_emitted(done, vm, answer);
     }
     let good = struct_order(c, structs, text);
-    let n = crossed_running(why, m, good);
-    n
+    crossed_running(why, m, good)
 }
 
 // Begins a function, which is then current.
@@ -167,12 +150,10 @@ pub fn begin_function(
     let c = m.program;
     if why == 0 {
         let done = emission_functions::begin_function(m.run.on, c, name, functions, text);
-        let n = tell_emitted(done, vm, answer);
-        return n;
+        return tell_emitted(done, vm, answer);
     }
     let good = function_order(c, functions, text);
-    let n = crossed_running(why, m, good);
-    n
+    crossed_running(why, m, good)
 }
 
 // Makes main current.
@@ -186,12 +167,10 @@ pub fn end_function(vm: &mut [u64], answer: &mut [u64]) -> u32
     let c = m.program;
     if why == 0 {
         let done = emission_functions::end_function(m.run.on, c);
-        let n = tell_emitted(done, vm, answer);
-        return n;
+        return tell_emitted(done, vm, answer);
     }
     let good = counts_ok(c);
-    let n = crossed_running(why, m, good);
-    n
+    crossed_running(why, m, good)
 }
 
 // The newest function of a name.
@@ -211,6 +190,5 @@ pub fn get_function_idx(
     let m = vm_of(vm);
     let c = m.program;
     let told = emission_functions::get_function_idx(c, name, functions, text);
-    let n = answer_told(why, told, answer);
-    n
+    answer_told(why, told, answer)
 }

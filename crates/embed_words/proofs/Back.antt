@@ -2,7 +2,7 @@
 use mathlib.Core.Path.{◌≡◌, refl}
 use mathlib.Core.Bool.{Bool, true, false}
 use mathlib.Core.List.{List, ◌++◌}
-use Prim.Native.Nat.{ℕ, ◌+◌, ◌≤◌}
+use Prim.Native.Nat.{ℕ, ◌≤◌}
 use native.Mathlib.Omega.{arith}
 use borrow.Author.Tests.{le-leb}
 use lib.Dec.{eqb, leb}
@@ -11,21 +11,20 @@ use lib.Seq.{sets-eq}
 use Rattle.model.specs.declared.Vm.{Vm}
 use Rattle.model.specs.declared.Value.{Value}
 use Rattle.model.specs.declared.Value.TheVariants as v
-use Rattle.model.specs.declared.Last.{Last}
-use Rattle.model.specs.declared.Last.TheVariants.{Nothing, Is}
 use Rattle.model.specs.Basics.{written}
 use Rattle.model.specs.Values.{kind, payload, exact_value, bit}
 use Rattle.value.specs.Links.{last_in, last_kind, last_payload}
 use Rattle.value.proofs.Coding.{words_exact}
 use Rattle.value.proofs.Lasts.{last_words}
 use Rattle.embed_words.specs.Coding.{run_in, vm_in, vm_words, FineLast, last_exact, record_ok, RecordOf}
+use Rattle.std.specs.Prelude.{None, Option, Some}
 
 -- ---- the last result
 
-last_back : (x : Last) → FineLast x → last_in (last_kind x) (last_payload x) ≡ x
+last_back : (x : Option Value) → FineLast x → last_in (last_kind x) (last_payload x) ≡ x
 unfolding last_in last_kind last_payload
-last_back Nothing f = refl
-last_back (Is x) f = last_words x f
+last_back None f = refl
+last_back (Some x) f = last_words x f
 
 -- no value has the kind 7, which says that there is none
 value_exact : (x : Value) → exact_value (kind x) (payload x) ≡ true → last_exact (kind x) (payload x) ≡ true
@@ -37,10 +36,10 @@ value_exact (v.FunctionReference o n) e = e
 value_exact (v.List p) e = e
 value_exact (v.StructInstance p) e = e
 
-last_exact_lem : (x : Last) → FineLast x → last_exact (last_kind x) (last_payload x) ≡ true
+last_exact_lem : (x : Option Value) → FineLast x → last_exact (last_kind x) (last_payload x) ≡ true
 unfolding last_exact last_kind last_payload
-last_exact_lem Nothing f = refl
-last_exact_lem (Is x) f = value_exact x (words_exact x f)
+last_exact_lem None f = refl
+last_exact_lem (Some x) f = value_exact x (words_exact x f)
 
 -- ---- whether a run is under way, and the setting
 

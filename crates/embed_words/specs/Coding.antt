@@ -1,6 +1,6 @@
 -- What crosses to a host in C: a machine's record and the entries' answers, as words in slices that the host lends.
 -- Enums do not cross: a value is its kind and its payload, as in the stores; an entry returns 0, or the number of its refusal.
-use Rattle.std.specs.Prelude.{◌≡◌, Bool, true, false, ◌&&◌, ◌||◌, List, [], ◌∷◌, ℕ, T, eqb, leb, length, get_or, if◌then◌else◌}
+use Rattle.std.specs.Prelude.{◌≡◌, Bool, true, false, ◌&&◌, ◌||◌, List, [], ◌∷◌, ℕ, T, eqb, leb, length, get_or, if◌then◌else◌, Err, None, Ok, Option, Result, Some}
 use Rattle.std.specs.Float.{binary64}
 use Rattle.std.specs.Float.Ieee.{fits}
 use Rattle.model.specs.declared.Counts.{Counts}
@@ -8,31 +8,20 @@ use Rattle.model.specs.declared.Run.{Run}
 use Rattle.model.specs.declared.Vm.{Vm}
 use Rattle.model.specs.declared.Value.{Value}
 use Rattle.model.specs.declared.Value.TheVariants as v
-use Rattle.model.specs.declared.Last.{Last}
-use Rattle.model.specs.declared.Last.TheVariants.{Nothing, Is}
 use Rattle.model.specs.declared.Frame.{Frame}
-use Rattle.model.specs.declared.Told.{Told}
-use Rattle.model.specs.declared.Told.TheVariants as t
-use Rattle.model.specs.declared.Shown.{Shown}
-use Rattle.model.specs.declared.Shown.TheVariants as sh
-use Rattle.model.specs.declared.Headed.{Headed}
-use Rattle.model.specs.declared.Headed.TheVariants as h
-use Rattle.model.specs.declared.Emitted.{Emitted}
-use Rattle.model.specs.declared.Emitted.TheVariants as e
-use Rattle.model.specs.declared.Changed.{Changed}
-use Rattle.model.specs.declared.Changed.TheVariants as ch
-use Rattle.model.specs.declared.Started.{Started}
-use Rattle.model.specs.declared.Started.TheVariants as st
-use Rattle.model.specs.declared.RunResult.{RunResult}
-use Rattle.model.specs.declared.RunResult.TheVariants as r
+use Rattle.model.specs.declared.Halt.TheVariants as r
 use Rattle.model.specs.Basics.{written}
 use Rattle.model.specs.Values.{kind, payload, exact_value, bit}
-use Rattle.model.specs.Answers.{run_number, started_number, emitted_number, told_number, shown_number, headed_number}
+use Rattle.model.specs.Answers.{refusal_number}
 use Rattle.model.specs.Stores.{Stores}
 use Rattle.model.specs.Emission.{Res}
 use Rattle.model.specs.Loading.{OutRes}
 use Rattle.model.specs.Machines.{Lent, RunCall, run_answer, refusal_of, RunPost, StartRes}
 use Rattle.value.specs.Links.{Fine, last_in, last_kind, last_payload}
+use Rattle.model.specs.declared.Header.{Header}
+use Rattle.model.specs.declared.Halt.{Halt}
+use Rattle.model.specs.declared.Refusal.{Refusal}
+use Rattle.model.specs.declared.Refusal.TheVariants as reason
 
 -- ---- a machine's record in seventeen words: constants, structs, functions, text, current, stack, frames, cells; the last result's kind and payload (kind 7,
 -- payload 0: none); and the run: whether one is under way (1, else 0), units given, units spent, root Returns, mark, values in the copy; and whether
@@ -72,9 +61,9 @@ vm_words m =
     ∷ bit m.run.on ∷ m.run.given ∷ m.run.spent ∷ m.run.returns ∷ m.run.mark ∷ m.run.saved ∷ bit m.strict ∷ []
 
 -- a last result that the words of a store can hold: what the types of the code say of it, and, of texts and cells, good order too
-abbrev pub FineLast : Last → Type 0
-FineLast Nothing = Unit
-FineLast (Is v) = Fine v
+abbrev pub FineLast : Option Value → Type 0
+FineLast None = Unit
+FineLast (Some v) = Fine v
 
 -- of these the type says only that a scalar is a float of 64 bits
 abbrev pub TypedValue : Value → Type 0
@@ -85,9 +74,9 @@ TypedValue (v.FunctionReference o n) = Unit
 TypedValue (v.List p) = Unit
 TypedValue (v.StructInstance p) = Unit
 
-abbrev pub TypedLast : Last → Type 0
-TypedLast Nothing = Unit
-TypedLast (Is v) = TypedValue v
+abbrev pub TypedLast : Option Value → Type 0
+TypedLast None = Unit
+TypedLast (Some v) = TypedValue v
 
 -- the words of a last result are exactly those of a value, or of none
 unfoldable pub last_exact : ℕ → ℕ → Bool
@@ -150,53 +139,49 @@ refused n w a = record { number = n; vm = w; answer = a }
 
 -- 1 value, 2 "continue", 3 fault, 4 paused; the units spent; the root Returns completed; the value's kind and payload, or the fault's number and the length
 -- of its backtrace
-unfoldable pub run_words : RunResult → List ℕ
-run_words (r.Value m v t) = 1 ∷ t.spent ∷ t.returns ∷ kind v ∷ payload v ∷ []
-run_words (r.Continue m t) = 2 ∷ t.spent ∷ t.returns ∷ 0 ∷ 0 ∷ []
-run_words (r.Fault m n t j) = 3 ∷ t.spent ∷ t.returns ∷ n ∷ j ∷ []
-run_words (r.Paused m) = 4 ∷ m.run.spent ∷ m.run.returns ∷ 0 ∷ 0 ∷ []
-run_words (r.Refused n) = []
+unfoldable pub run_words : Result Halt Refusal → List ℕ
+run_words (Ok (r.Value m v t)) = 1 ∷ t.spent ∷ t.returns ∷ kind v ∷ payload v ∷ []
+run_words (Ok (r.Continue m t)) = 2 ∷ t.spent ∷ t.returns ∷ 0 ∷ 0 ∷ []
+run_words (Ok (r.Fault m n t j)) = 3 ∷ t.spent ∷ t.returns ∷ n ∷ j ∷ []
+run_words (Ok (r.Paused m)) = 4 ∷ m.run.spent ∷ m.run.returns ∷ 0 ∷ 0 ∷ []
+run_words (Err e) = []
 
-unfoldable pub run_coded : RunResult → List ℕ → List ℕ → Coded
-run_coded (r.Value m v t) w a = record { number = run_number (r.Value m v t); vm = written w 0 (vm_words m); answer = written a 0 (run_words (r.Value m v t)) }
-run_coded (r.Continue m t) w a = record { number = run_number (r.Continue m t); vm = written w 0 (vm_words m); answer = written a 0 (run_words (r.Continue m t)) }
-run_coded (r.Fault m n t j) w a = record { number = run_number (r.Fault m n t j); vm = written w 0 (vm_words m); answer = written a 0 (run_words (r.Fault m n t j)) }
-run_coded (r.Paused m) w a = record { number = run_number (r.Paused m); vm = written w 0 (vm_words m); answer = written a 0 (run_words (r.Paused m)) }
-run_coded (r.Refused n) w a = refused (run_number (r.Refused n)) w a
+unfoldable pub run_coded : Result Halt Refusal → List ℕ → List ℕ → Coded
+run_coded (Ok (r.Value m v t)) w a = record { number = 0; vm = written w 0 (vm_words m); answer = written a 0 (run_words (Ok (r.Value m v t))) }
+run_coded (Ok (r.Continue m t)) w a = record { number = 0; vm = written w 0 (vm_words m); answer = written a 0 (run_words (Ok (r.Continue m t))) }
+run_coded (Ok (r.Fault m n t j)) w a = record { number = 0; vm = written w 0 (vm_words m); answer = written a 0 (run_words (Ok (r.Fault m n t j))) }
+run_coded (Ok (r.Paused m)) w a = record { number = 0; vm = written w 0 (vm_words m); answer = written a 0 (run_words (Ok (r.Paused m))) }
+run_coded (Err e) w a = refused (refusal_number e) w a
 
 -- of refusal 20 the answer is the offset
-unfoldable pub started_coded : Started → List ℕ → List ℕ → Coded
-started_coded (st.Done m) w a = record { number = started_number (st.Done m); vm = written w 0 (vm_words m); answer = a }
-started_coded (st.Broken i) w a = record { number = started_number (st.Broken i); vm = w; answer = written a 0 (i ∷ []) }
-started_coded (st.Refused n) w a = refused (started_number (st.Refused n)) w a
-
-abbrev pub changed_number : Changed → ℕ
-changed_number (ch.Done m) = 0
-changed_number (ch.Refused n) = n
+unfoldable pub started_coded : Result Vm Refusal → List ℕ → List ℕ → Coded
+started_coded (Ok m) w a = record { number = 0; vm = written w 0 (vm_words m); answer = a }
+started_coded (Err (reason.BrokenImage i)) w a = record { number = refusal_number (reason.BrokenImage i); vm = w; answer = written a 0 (i ∷ []) }
+started_coded (Err e) w a = refused (refusal_number e) w a
 
 -- changing the setting tells nothing besides
-unfoldable pub changed_coded : Changed → List ℕ → List ℕ → Coded
-changed_coded (ch.Done m) w a = record { number = changed_number (ch.Done m); vm = written w 0 (vm_words m); answer = a }
-changed_coded (ch.Refused n) w a = refused (changed_number (ch.Refused n)) w a
+unfoldable pub changed_coded : Result Vm Refusal → List ℕ → List ℕ → Coded
+changed_coded (Ok m) w a = record { number = 0; vm = written w 0 (vm_words m); answer = a }
+changed_coded (Err e) w a = refused (refusal_number e) w a
 
 -- the counts to the record, and the number that was told
-unfoldable pub emitted_coded : Emitted → List ℕ → List ℕ → Coded
-emitted_coded (e.Done c n) w a = record { number = emitted_number (e.Done c n); vm = written w 0 (count_words c); answer = written a 0 (n ∷ []) }
-emitted_coded (e.Refused n) w a = refused (emitted_number (e.Refused n)) w a
+unfoldable pub emitted_coded : Result (Counts × ℕ) Refusal → List ℕ → List ℕ → Coded
+emitted_coded (Ok (c, n)) w a = record { number = 0; vm = written w 0 (count_words c); answer = written a 0 (n ∷ []) }
+emitted_coded (Err e) w a = refused (refusal_number e) w a
 
-unfoldable pub told_coded : Told → List ℕ → List ℕ → Coded
-told_coded (t.Number n) w a = record { number = told_number (t.Number n); vm = w; answer = written a 0 (n ∷ []) }
-told_coded (t.Refused n) w a = refused (told_number (t.Refused n)) w a
+unfoldable pub told_coded : Result ℕ Refusal → List ℕ → List ℕ → Coded
+told_coded (Ok n) w a = record { number = 0; vm = w; answer = written a 0 (n ∷ []) }
+told_coded (Err e) w a = refused (refusal_number e) w a
 
 -- the kind and the payload of the value
-unfoldable pub shown_coded : Shown → List ℕ → List ℕ → Coded
-shown_coded (sh.Value v) w a = record { number = shown_number (sh.Value v); vm = w; answer = written a 0 (kind v ∷ payload v ∷ []) }
-shown_coded (sh.Refused n) w a = refused (shown_number (sh.Refused n)) w a
+unfoldable pub shown_coded : Result Value Refusal → List ℕ → List ℕ → Coded
+shown_coded (Ok v) w a = record { number = 0; vm = w; answer = written a 0 (kind v ∷ payload v ∷ []) }
+shown_coded (Err e) w a = refused (refusal_number e) w a
 
 -- the count of elements, the struct number and the depth
-unfoldable pub headed_coded : Headed → List ℕ → List ℕ → Coded
-headed_coded (h.Is x) w a = record { number = headed_number (h.Is x); vm = w; answer = written a 0 (x.count ∷ x.number ∷ x.depth ∷ []) }
-headed_coded (h.Refused n) w a = refused (headed_number (h.Refused n)) w a
+unfoldable pub headed_coded : Result Header Refusal → List ℕ → List ℕ → Coded
+headed_coded (Ok x) w a = record { number = 0; vm = w; answer = written a 0 (x.count ∷ x.number ∷ x.depth ∷ []) }
+headed_coded (Err e) w a = refused (refusal_number e) w a
 
 -- ---- the entries: refused by what crosses, or the entry's own rule, with its answer in words. `why` is that refusal, 0 where there is none
 
@@ -234,17 +219,18 @@ out_through firsts why w a out rule = record {
 
 -- a call of a run: refused by its slices, or that part of the run of the record's machine, with its result in words
 pub record RunThrough (call : RunCall) (w a : List ℕ) (s : Stores) (l : Lent) (c : Coded) (l' : Lent) : Type 0 where
-  pub result : RunResult
+  pub result : Result Halt Refusal
   pub coded : c ≡ run_coded result w a
   pub runs : slices_refusal w 5 a ≡ 0 → RunPost call (vm_in w) s l result l'
-  pub refuses : (slices_refusal w 5 a ≡ 0 → ⊥) → (result ≡ r.Refused (crossed at_entry (slices_refusal w 5 a) (refusal_of (run_answer call (vm_in w) s l)))) × (l' ≡ l)
+  pub refuses : (slices_refusal w 5 a ≡ 0 → ⊥)
+      → (e : Refusal) × (result ≡ Err e) × (refusal_number e ≡ crossed at_entry (slices_refusal w 5 a) (refusal_of (run_answer call (vm_in w) s l))) × (l' ≡ l)
 
 -- making a machine where the record refuses, or it or the answer is too short. "Loading: 20, 17, 22, 21" and "25 first": a broken image comes before 17,
 -- and its offset is written where the answer has a word
-unfoldable pub unmade : ℕ → Started → List ℕ → List ℕ → Coded
-unmade why (st.Done m) w a = refused why w a
-unmade why (st.Broken i) w a = if eqb why 17 then started_coded (st.Broken i) w a else refused why w a
-unmade why (st.Refused n) w a = refused why w a
+unfoldable pub unmade : ℕ → Result Vm Refusal → List ℕ → List ℕ → Coded
+unmade why (Ok m) w a = refused why w a
+unmade why (Err (reason.BrokenImage i)) w a = if eqb why 17 then started_coded (Err (reason.BrokenImage i)) w a else refused why w a
+unmade why (Err e) w a = refused why w a
 
 -- making a machine; r is what the entry itself does where no run is under way
 pub record StartThrough : Type 0 where

@@ -1,23 +1,14 @@
 // A machine's record as words in a lent slice: what crosses to a host in C. The definitions are those of all that crosses.
 #![tactic(auto)]
 
-ghost use Rattle.std.specs.Prelude.{◌≡◌, get_or, set};
+ghost use Rattle.std.specs.Prelude.{◌≡◌, set};
 ghost use Rattle.model.specs.Basics.{written};
 ghost use Rattle.model.specs.declared.Vm.{Vm};
 ghost use Rattle.embed_words.specs.Coding.{run_in, vm_in, count_words, under_words, vm_words};
 
+use layout::reads::word;
 use model::{Counts, Run, Vm};
 use value::words::{last_in, last_kind, last_payload};
-
-// Word i, 0 past the end.
-pub fn word(s: &[u64], i: usize) -> u64
-    ensures { result ≡ get_or s.now i 0 }
-{
-    if i < s.len() {
-        return s[i];
-    }
-    0
-}
 
 // x for word i; past the end nothing is written.
 pub fn put(s: &mut [u64], i: usize, x: u64)
@@ -31,6 +22,7 @@ pub fn put(s: &mut [u64], i: usize, x: u64)
 // ---- a machine's record
 
 // The counts of a record.
+#[tactic(auto, unfolding(crate::specs::Coding::vm_in))]
 fn counts_of(vm: &[u64]) -> Counts
     ensures { result ≡ (vm_in vm.now).program }
 {
@@ -44,12 +36,12 @@ fn counts_of(vm: &[u64]) -> Counts
 }
 
 // The run of a record.
+#[tactic(auto, unfolding(crate::specs::Coding::run_in))]
 fn run_of(vm: &[u64]) -> Run
     ensures { result ≡ run_in vm.now }
 {
-    let on = word(vm, 10) == 1;
     Run {
-        on,
+        on: word(vm, 10) == 1,
         given: word(vm, 11),
         spent: word(vm, 12),
         returns: word(vm, 13),
@@ -59,25 +51,23 @@ fn run_of(vm: &[u64]) -> Run
 }
 
 // The machine of a record.
+#[tactic(auto, unfolding(crate::specs::Coding::vm_in))]
 pub fn vm_of(vm: &[u64]) -> Vm
     ensures { result ≡ vm_in vm.now }
 {
-    let program = counts_of(vm);
-    let last = last_in(word(vm, 8), word(vm, 9));
-    let run = run_of(vm);
-    let strict = word(vm, 16) == 1;
     Vm {
-        program,
+        program: counts_of(vm),
         stack: word(vm, 5) as usize,
         frames: word(vm, 6) as usize,
         cells: word(vm, 7) as usize,
-        last,
-        run,
-        strict,
+        last: last_in(word(vm, 8), word(vm, 9)),
+        run: run_of(vm),
+        strict: word(vm, 16) == 1,
     }
 }
 
 // The counts to their words of the record.
+#[tactic(auto, unfolding(crate::specs::Coding::count_words, model::specs::Basics::written))]
 pub fn put_counts(c: Counts, vm: &mut [u64])
     ensures { vm.new ≡ written vm.old 0 (count_words c) }
 {
@@ -89,10 +79,11 @@ pub fn put_counts(c: Counts, vm: &mut [u64])
 }
 
 // A run to its words of the record.
+#[tactic(auto, unfolding(crate::specs::Coding::under_words, model::specs::Basics::written))]
 fn put_run(x: Run, vm: &mut [u64])
     ensures { vm.new ≡ written vm.old 10 (under_words x) }
 {
-    put(vm, 10, x.on as u64);
+    put(vm, 10, u64::from(x.on));
     put(vm, 11, x.given);
     put(vm, 12, x.spent);
     put(vm, 13, x.returns);
@@ -101,18 +92,16 @@ fn put_run(x: Run, vm: &mut [u64])
 }
 
 // The record of a machine.
+#[tactic(auto, unfolding(crate::specs::Coding::vm_words, crate::specs::Coding::count_words, crate::specs::Coding::under_words, model::specs::Basics::written))]
 pub fn put_vm(m: Vm, vm: &mut [u64])
     ensures { vm.new ≡ written vm.old 0 (vm_words m) }
 {
-    let last = m.last;
-    let kind = last_kind(last);
-    let payload = last_payload(last);
     put_counts(m.program, vm);
     put(vm, 5, m.stack as u64);
     put(vm, 6, m.frames as u64);
     put(vm, 7, m.cells as u64);
-    put(vm, 8, kind);
-    put(vm, 9, payload);
+    put(vm, 8, last_kind(m.last));
+    put(vm, 9, last_payload(m.last));
     put_run(m.run, vm);
-    put(vm, 16, m.strict as u64);
+    put(vm, 16, u64::from(m.strict));
 }

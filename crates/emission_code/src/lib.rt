@@ -7,19 +7,19 @@ ghost use Rattle.model.specs.Stores.{Stores};
 ghost use Rattle.model.specs.Emission.{code_order, patch_order, code_room, emit_of, add_op_of, add_op1_of, add_op2_of, add_op3_of, current_offset_of, patch_of};
 ghost use Rattle.layout.specs.Links.{Is, code_lent, bytes_lent};
 
-use layout::reads::{lesser, pack, room, second, size_of, start_of};
+use layout::reads::{pack, room, second, size_of, start_of};
 use layout::writes::{put_bytes, put_code};
-use model::{CODE_LIMIT, Counts, Emitted, Told};
+use model::{CODE_LIMIT, Counts, Refusal};
 use program::order::{counts_ok, functions_ok, inside_codes};
 
 // How long the current function's code is.
-pub fn current_offset(c: Counts, functions: &[u64]) -> Told
+pub fn current_offset(c: Counts, functions: &[u64]) -> Result<usize, Refusal>
     ensures { result ≡ current_offset_of c functions.now }
 {
-    if counts_ok(c) & functions_ok(c, functions) {
-        return Told::Number(size_of(second(functions, c.current)));
+    if !(counts_ok(c) & functions_ok(c, functions)) {
+        return Err(Refusal::NotInOrder);
     }
-    Told::Refused(19)
+    Ok(size_of(second(functions, c.current)))
 }
 
 // Good order of what the emission of code is lent.
@@ -50,9 +50,9 @@ fn code_room(
     ensures { (rest : Stores) (fs : List ℕ) → result ≡ code_room c (code_lent rest fs main.now main_places.now other.now other_places.now) }
 {
     if c.current == 0 {
-        return lesser(room(main.len(), 1), room(main_places.len(), 1));
+        return room(main.len(), 1).min(room(main_places.len(), 1));
     }
-    lesser(room(other.len(), 1), room(other_places.len(), 1))
+    room(other.len(), 1).min(room(other_places.len(), 1))
 }
 
 // An instruction at the end of the current function, each byte with the place.
@@ -67,15 +67,15 @@ fn emit(
     main_places: &mut [u32],
     other: &mut [u8],
     other_places: &mut [u32],
-) -> Emitted
+) -> Result<(Counts, usize), Refusal>
     ensures { (rest : Stores) → Is (emit_of running c op bytes.now place (code_lent rest functions.old main.old main_places.old other.old other_places.old)) result (code_lent rest functions.new main.new main_places.new other.new other_places.new) }
 {
     let ok = code_order(c, functions, main, main_places, other, other_places);
     if !ok {
-        return Emitted::Refused(19);
+        return Err(Refusal::NotInOrder);
     }
     if running {
-        return Emitted::Refused(25);
+        return Err(Refusal::RunUnderWay);
     }
     let current = c.current;
     let word = second(functions, current);
@@ -83,23 +83,23 @@ fn emit(
     let size = size_of(word);
     let n = bytes.len();
     if CODE_LIMIT - size < n {
-        return Emitted::Refused(22);
+        return Err(Refusal::OverLimit);
     }
     let end = start + size;
     let room = code_room(c, main, main_places, other, other_places);
     if room < end + n {
-        return Emitted::Refused(21);
+        return Err(Refusal::StoreFull);
     }
     if 38 <= op {
-        return Emitted::Refused(1);
+        return Err(Refusal::UnknownOpcode);
     }
     functions[2 * current + 1] = pack(start, size + n);
     if current == 0 {
         put_code(main, main_places, end, bytes, place);
-        return Emitted::Done(c, 0);
+        return Ok((c, 0));
     }
     put_code(other, other_places, end, bytes, place);
-    Emitted::Done(c, 0)
+    Ok((c, 0))
 }
 
 // An instruction with no operand.
@@ -113,7 +113,7 @@ pub fn add_op(
     main_places: &mut [u32],
     other: &mut [u8],
     other_places: &mut [u32],
-) -> Emitted
+) -> Result<(Counts, usize), Refusal>
     ensures { (rest : Stores) → Is (add_op_of running c op place (code_lent rest functions.old main.old main_places.old other.old other_places.old)) result (code_lent rest functions.new main.new main_places.new other.new other_places.new) }
 {
     let bytes = [op];
@@ -143,10 +143,11 @@ pub fn add_op1(
     main_places: &mut [u32],
     other: &mut [u8],
     other_places: &mut [u32],
-) -> Emitted
+) -> Result<(Counts, usize), Refusal>
     ensures { (rest : Stores) → Is (add_op1_of running c op a place (code_lent rest functions.old main.old main_places.old other.old other_places.old)) result (code_lent rest functions.new main.new main_places.new other.new other_places.new) }
 {
-    let bytes = [op, (a % 256) as u8, (a / 256) as u8];
+    let [a_low, a_high] = a.to_le_bytes();
+    let bytes = [op, a_low, a_high];
     emit(
         running,
         c,
@@ -174,16 +175,12 @@ pub fn add_op2(
     main_places: &mut [u32],
     other: &mut [u8],
     other_places: &mut [u32],
-) -> Emitted
+) -> Result<(Counts, usize), Refusal>
     ensures { (rest : Stores) → Is (add_op2_of running c op a b place (code_lent rest functions.old main.old main_places.old other.old other_places.old)) result (code_lent rest functions.new main.new main_places.new other.new other_places.new) }
 {
-    let bytes = [
-        op,
-        (a % 256) as u8,
-        (a / 256) as u8,
-        (b % 256) as u8,
-        (b / 256) as u8,
-    ];
+    let [a_low, a_high] = a.to_le_bytes();
+    let [b_low, b_high] = b.to_le_bytes();
+    let bytes = [op, a_low, a_high, b_low, b_high];
     emit(
         running,
         c,
@@ -212,18 +209,13 @@ pub fn add_op3(
     main_places: &mut [u32],
     other: &mut [u8],
     other_places: &mut [u32],
-) -> Emitted
+) -> Result<(Counts, usize), Refusal>
     ensures { (rest : Stores) → Is (add_op3_of running c op a b d place (code_lent rest functions.old main.old main_places.old other.old other_places.old)) result (code_lent rest functions.new main.new main_places.new other.new other_places.new) }
 {
-    let bytes = [
-        op,
-        (a % 256) as u8,
-        (a / 256) as u8,
-        (b % 256) as u8,
-        (b / 256) as u8,
-        (d % 256) as u8,
-        (d / 256) as u8,
-    ];
+    let [a_low, a_high] = a.to_le_bytes();
+    let [b_low, b_high] = b.to_le_bytes();
+    let [d_low, d_high] = d.to_le_bytes();
+    let bytes = [op, a_low, a_high, b_low, b_high, d_low, d_high];
     emit(
         running,
         c,
@@ -254,29 +246,29 @@ pub fn patch_u16_value_at(
     functions: &[u64],
     main: &mut [u8],
     other: &mut [u8],
-) -> Emitted
+) -> Result<(Counts, usize), Refusal>
     ensures { (rest : Stores) → Is (patch_of running c offset arg (bytes_lent rest functions.now main.old other.old)) result (bytes_lent rest functions.now main.new other.new) }
 {
     let ok = patch_order(c, functions, main, other);
     if !ok {
-        return Emitted::Refused(19);
+        return Err(Refusal::NotInOrder);
     }
     if running {
-        return Emitted::Refused(25);
+        return Err(Refusal::RunUnderWay);
     }
     let current = c.current;
     let word = second(functions, current);
     let start = start_of(word);
     let size = size_of(word);
-    let at = offset as usize;
+    let at = usize::from(offset);
     if size < at + 2 {
-        return Emitted::Refused(23);
+        return Err(Refusal::PatchOutsideCode);
     }
-    let bytes = [(arg % 256) as u8, (arg / 256) as u8];
+    let bytes = arg.to_le_bytes();
     if current == 0 {
         put_bytes(main, start + at, &bytes);
-        return Emitted::Done(c, 0);
+        return Ok((c, 0));
     }
     put_bytes(other, start + at, &bytes);
-    Emitted::Done(c, 0)
+    Ok((c, 0))
 }

@@ -9,23 +9,28 @@ ghost use Rattle.layout.specs.Links.{Is, constants_lent};
 
 use layout::reads::{pack, room, text_room};
 use layout::writes::{put_bytes, put_words};
-use model::{CONSTANT_LIMIT, Constant, Counts, Emitted};
+use model::{CONSTANT_LIMIT, Constant, Counts, Refusal};
 use program::order::{constants_ok, counts_ok, text_ok};
 
 // One constant more, of that kind and payload.
-fn plain(c: Counts, kind: u64, payload: u64, constants: &mut [u64]) -> Emitted
+fn plain(
+    c: Counts,
+    kind: u64,
+    payload: u64,
+    constants: &mut [u64],
+) -> Result<(Counts, usize), Refusal>
     requires { 2 * c.constants + 2 ≤ length constants.old }
     ensures { (rest : Stores) (t : List ℕ) → Is (with_constant c kind payload (constants_lent rest constants.old t)) result (constants_lent rest constants.new t) }
 {
     let n = c.constants;
     put_words(constants, n, kind, payload);
-    Emitted::Done(
+    Ok((
         Counts {
             constants: n + 1,
             ..c
         },
         n,
-    )
+    ))
 }
 
 // One constant more, a text, if there is room for it.
@@ -35,27 +40,26 @@ fn text_constant(
     lent: &[u8],
     constants: &mut [u64],
     text: &mut [u8],
-) -> Emitted
+) -> Result<(Counts, usize), Refusal>
     requires { 2 * c.constants + 2 ≤ length constants.old }
     ensures { (rest : Stores) → Is (with_text_constant c kind lent.now (constants_lent rest constants.old text.old)) result (constants_lent rest constants.new text.new) }
 {
     let size = lent.len();
-    if text_room(c, text, size) {
-        let at = c.text;
-        let end = at + size;
-        let n = c.constants;
-        put_bytes(text, at, lent);
-        put_words(constants, n, kind, pack(at, size));
-        return Emitted::Done(
-            Counts {
-                constants: n + 1,
-                text: end,
-                ..c
-            },
-            n,
-        );
+    if !text_room(c, text, size) {
+        return Err(Refusal::StoreFull);
     }
-    Emitted::Refused(21)
+    let at = c.text;
+    let n = c.constants;
+    put_bytes(text, at, lent);
+    put_words(constants, n, kind, pack(at, size));
+    Ok((
+        Counts {
+            constants: n + 1,
+            text: at + size,
+            ..c
+        },
+        n,
+    ))
 }
 
 // Good order of what add_constant is lent.
@@ -73,26 +77,26 @@ pub fn add_constant(
     lent: &[u8],
     constants: &mut [u64],
     text: &mut [u8],
-) -> Emitted
+) -> Result<(Counts, usize), Refusal>
     ensures { (rest : Stores) → Is (add_constant_of running c constant lent.now (constants_lent rest constants.old text.old)) result (constants_lent rest constants.new text.new) }
 {
     let ok = constant_order(c, constants, text);
     if !ok {
-        return Emitted::Refused(19);
+        return Err(Refusal::NotInOrder);
     }
     if running {
-        return Emitted::Refused(25);
+        return Err(Refusal::RunUnderWay);
     }
     let n = c.constants;
     if CONSTANT_LIMIT <= n {
-        return Emitted::Refused(22);
+        return Err(Refusal::OverLimit);
     }
     if room(constants.len(), 2) <= n {
-        return Emitted::Refused(21);
+        return Err(Refusal::StoreFull);
     }
     match constant {
         Constant::Scalar(w) => plain(c, 0, w, constants),
-        Constant::Boolean(b) => plain(c, 1, b as u64, constants),
+        Constant::Boolean(b) => plain(c, 1, u64::from(b), constants),
         Constant::String => text_constant(c, 2, lent, constants, text),
         Constant::FunctionReference => text_constant(c, 3, lent, constants, text),
     }

@@ -8,41 +8,42 @@ ghost use Rattle.layout.specs.Links.{Is, names_lent};
 
 use layout::reads::{code_start, pack, room, text_room};
 use layout::writes::{put_bytes, put_words};
-use model::{Counts, Emitted, NAME_LIMIT, Told};
+use model::{Counts, NAME_LIMIT, Refusal};
 use program::names::newest_function;
 use program::order::{counts_ok, functions_ok, main_ok, text_ok};
 
 // A new program: `<main>`, and nothing else.
-pub fn new(functions: &mut [u64], text: &mut [u8]) -> Emitted
+pub fn new(functions: &mut [u64], text: &mut [u8]) -> Result<(Counts, usize), Refusal>
     ensures { (rest : Stores) → Is (new_of (names_lent rest functions.old text.old)) result (names_lent rest functions.new text.new) }
 {
-    if (6 <= room(text.len(), 1)) & (1 <= room(functions.len(), 2)) {
-        put_bytes(text, 0, b"<main>");
-        put_words(functions, 0, pack(0, 6), 0);
-        let c = Counts {
-            constants: 0,
-            structs: 0,
-            functions: 1,
-            text: 6,
-            current: 0,
-        };
-        return Emitted::Done(c, 0);
+    let fits = (6 <= room(text.len(), 1)) & (1 <= room(functions.len(), 2));
+    if !fits {
+        return Err(Refusal::StoreFull);
     }
-    Emitted::Refused(21)
+    put_bytes(text, 0, b"<main>");
+    put_words(functions, 0, pack(0, 6), 0);
+    let c = Counts {
+        constants: 0,
+        structs: 0,
+        functions: 1,
+        text: 6,
+        current: 0,
+    };
+    Ok((c, 0))
 }
 
 // Emission goes on in main.
-pub fn end_function(running: bool, c: Counts) -> Emitted
+pub fn end_function(running: bool, c: Counts) -> Result<(Counts, usize), Refusal>
     ensures { result ≡ end_function_of running c }
 {
     let ok = counts_ok(c);
     if !ok {
-        return Emitted::Refused(19);
+        return Err(Refusal::NotInOrder);
     }
     if running {
-        return Emitted::Refused(25);
+        return Err(Refusal::RunUnderWay);
     }
-    Emitted::Done(Counts { current: 0, ..c }, 0)
+    Ok((Counts { current: 0, ..c }, 0))
 }
 
 // Good order of what the entries below are lent.
@@ -59,49 +60,53 @@ pub fn begin_function(
     name: &[u8],
     functions: &mut [u64],
     text: &mut [u8],
-) -> Emitted
+) -> Result<(Counts, usize), Refusal>
     ensures { (rest : Stores) → Is (begin_function_of running c name.now (names_lent rest functions.old text.old)) result (names_lent rest functions.new text.new) }
 {
     let ok = function_order(c, functions, text);
     if !ok {
-        return Emitted::Refused(19);
+        return Err(Refusal::NotInOrder);
     }
     if running {
-        return Emitted::Refused(25);
+        return Err(Refusal::RunUnderWay);
     }
     let n = c.functions;
     if NAME_LIMIT <= n {
-        return Emitted::Refused(22);
+        return Err(Refusal::OverLimit);
     }
     if room(functions.len(), 2) <= n {
-        return Emitted::Refused(21);
+        return Err(Refusal::StoreFull);
     }
     let size = name.len();
-    if text_room(c, text, size) {
-        let at = c.text;
-        let end = at + size;
-        let behind = code_start(functions, n);
-        put_bytes(text, at, name);
-        put_words(functions, n, pack(at, size), pack(behind, 0));
-        return Emitted::Done(
-            Counts {
-                functions: n + 1,
-                text: end,
-                current: n,
-                ..c
-            },
-            n,
-        );
+    if !text_room(c, text, size) {
+        return Err(Refusal::StoreFull);
     }
-    Emitted::Refused(21)
+    let at = c.text;
+    let behind = code_start(functions, n);
+    put_bytes(text, at, name);
+    put_words(functions, n, pack(at, size), pack(behind, 0));
+    Ok((
+        Counts {
+            functions: n + 1,
+            text: at + size,
+            current: n,
+            ..c
+        },
+        n,
+    ))
 }
 
 // The number of the newest function of that name.
-pub fn get_function_idx(c: Counts, name: &[u8], functions: &[u64], text: &[u8]) -> Told
+pub fn get_function_idx(
+    c: Counts,
+    name: &[u8],
+    functions: &[u64],
+    text: &[u8],
+) -> Result<usize, Refusal>
     ensures { (rest : Stores) → result ≡ function_idx_of c name.now (names_lent rest functions.now text.now) }
 {
-    if function_order(c, functions, text) {
-        return newest_function(c.functions, name, functions, text);
+    if !function_order(c, functions, text) {
+        return Err(Refusal::NotInOrder);
     }
-    Told::Refused(19)
+    newest_function(c.functions, name, functions, text)
 }

@@ -10,48 +10,49 @@ ghost use Rattle.layout.specs.Links.{Is, structs_lent};
 use layout::ordered::{put_struct, spot, stands};
 use layout::reads::{index, pack, room, second, text_room};
 use layout::writes::put_bytes;
-use model::{Counts, Emitted, NAME_LIMIT};
+use model::{Counts, NAME_LIMIT, Refusal};
 use program::order::{counts_ok, structs_ok, text_ok};
 
 // Good order of what add_struct_info is lent.
 pub fn struct_order(c: Counts, structs: &[u64], text: &[u8]) -> bool
     ensures { (rest : Stores) → result ≡ struct_order c (structs_lent rest structs.now text.now) }
 {
-    if counts_ok(c) & text_ok(c, text) {
-        return structs_ok(c, structs, text);
-    }
-    false
+    counts_ok(c) && text_ok(c, text) && structs_ok(c, structs, text)
 }
 
 // One struct name more, at its place in the order.
-fn add_struct(c: Counts, at: usize, name: &[u8], structs: &mut [u64], text: &mut [u8]) -> Emitted
+fn add_struct(
+    c: Counts,
+    at: usize,
+    name: &[u8],
+    structs: &mut [u64],
+    text: &mut [u8],
+) -> Result<(Counts, usize), Refusal>
     requires { Placed c.structs at name.now structs.old text.old }
     ensures { (rest : Stores) → Is (struct_added c name.now (structs_lent rest structs.old text.old)) result (structs_lent rest structs.new text.new) }
 {
     let n = c.structs;
     if NAME_LIMIT <= n {
-        return Emitted::Refused(22);
+        return Err(Refusal::OverLimit);
     }
     if room(structs.len(), 2) <= n {
-        return Emitted::Refused(21);
+        return Err(Refusal::StoreFull);
     }
     let size = name.len();
-    if text_room(c, text, size) {
-        let start = c.text;
-        let end = start + size;
-        put_bytes(text, start, name);
-        let word = pack(start, size);
-        put_struct(structs, at, n, word);
-        return Emitted::Done(
-            Counts {
-                structs: n + 1,
-                text: end,
-                ..c
-            },
-            n,
-        );
+    if !text_room(c, text, size) {
+        return Err(Refusal::StoreFull);
     }
-    Emitted::Refused(21)
+    let start = c.text;
+    put_bytes(text, start, name);
+    put_struct(structs, at, n, pack(start, size));
+    Ok((
+        Counts {
+            structs: n + 1,
+            text: start + size,
+            ..c
+        },
+        n,
+    ))
 }
 
 // The number of a known name, else of a new one.
@@ -61,21 +62,20 @@ pub fn add_struct_info(
     name: &[u8],
     structs: &mut [u64],
     text: &mut [u8],
-) -> Emitted
+) -> Result<(Counts, usize), Refusal>
     ensures { (rest : Stores) → Is (add_struct_of running c name.now (structs_lent rest structs.old text.old)) result (structs_lent rest structs.new text.new) }
 {
     let ok = struct_order(c, structs, text);
     if !ok {
-        return Emitted::Refused(19);
+        return Err(Refusal::NotInOrder);
     }
     if running {
-        return Emitted::Refused(25);
+        return Err(Refusal::RunUnderWay);
     }
     let n = c.structs;
     let at = spot(name, n, structs, text);
     if stands(name, at, n, structs, text) {
-        let known = index(second(structs, at));
-        return Emitted::Done(c, known);
+        return Ok((c, index(second(structs, at))));
     }
     add_struct(c, at, name, structs, text)
 }

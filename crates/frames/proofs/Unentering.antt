@@ -1,16 +1,17 @@
 -- The first n frames unentered, as the beginning of a run leaves them.
---     none_yet, next-frame, one_more     the loop that sets the numbers to 0
+--     none_yet, next-frame, one_more, all_of     the loop that sets the numbers to 0
 --     unentered-room                     as many frames as before
 --     unentered-taken                    the first frames, each unentered
 --     innermost-unentered                a machine's innermost frame in them, unentered
 --     callers-unentered                  and its callers
 -- Assumes nothing.
 use mathlib.Core.Path.{◌≡◌, refl, sym, ap, ◌∙◌}
-use mathlib.Core.List.{List, [], ◌∷◌, map, reverse}
+use mathlib.Core.List.{List, [], ◌∷◌, ◌++◌, map, reverse}
 use mathlib.Mathlib.Data.List.Basic.{map-reverse_aux}
 use Prim.Native.Nat.{ℕ, zero, suc, ◌-◌, ◌≤◌, ◌<◌}
 use native.Mathlib.Omega.{arith}
-use lib.ListN.{length, get_or, set, take}
+use lib.ListN.{length, get_or, set, take, drop}
+use Rattle.std.proofs.lemmas.List.{take_all, drop_all, append-nil}
 use Rattle.model.specs.declared.Frame.{Frame}
 use Rattle.model.specs.Runs.{root, unentered}
 use Rattle.model.specs.Machines.{innermost, callers_in}
@@ -37,6 +38,11 @@ one_more i [] h = absurd (omega (arith, h))
 one_more zero (f ∷ []) h = refl
 one_more zero (f ∷ g ∷ gs) h = refl
 one_more (suc i) (f ∷ fs) h = ap (λ (gs : List Frame). unentered f ∷ gs) (one_more i fs (omega arith))
+
+-- past the last of the first n frames all of them are unentered
+pub all_of : (i n : ℕ) (frames : List Frame) → length (take n frames) ≤ i → all_unentered i (take n frames) ++ drop n frames ≡ all_unentered n frames
+unfolding all_unentered
+all_of i n frames h = rw (take_all i (take n frames) h, drop_all i (take n frames) h, append-nil (map unentered (take n frames))) refl
 
 -- ---- what they are
 

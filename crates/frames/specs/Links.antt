@@ -1,12 +1,10 @@
 -- What the contracts cite beside the model: a frame store judged by the functions' words, and a backtrace in numbers.
-use Rattle.std.specs.Prelude.{Bool, true, false, ◌&&◌, ◌≡◌, List, [], ◌∷◌, ◌++◌, map, ℕ, zero, suc, ◌+◌, ◌-◌, ◌*◌, ◌<◌, ◌≤◌, min, ltb, leb, eqb, length, get_or, set, take, drop, if◌then◌else◌}
+use Rattle.std.specs.Prelude.{Bool, true, ◌&&◌, List, [], ◌∷◌, ◌++◌, map, ℕ, zero, suc, ◌+◌, ◌-◌, ◌*◌, ◌<◌, ◌≤◌, min, ltb, leb, eqb, length, get_or, take, drop, if◌then◌else◌}
 use Rattle.model.specs.declared.Frame.{Frame}
 use Rattle.model.specs.Basics.{every_from}
 use Rattle.model.specs.Values.{most_places}
 use Rattle.model.specs.Stores.{start, size, code_word}
 use Rattle.model.specs.Runs.{unentered}
-use Rattle.frames.specs.declared.order.Scan.{Scan}
-use Rattle.frames.specs.declared.backtrace.Left.{Left}
 unfoldable pub use Rattle.model.specs.Basics.{written}
 unfoldable pub use Rattle.model.specs.Machines.{entry_words}
 
@@ -42,16 +40,6 @@ frames_good words count slots n frames =
     leb 1 n
     && leb n (min (length frames) most_places)
     && every_from n 0 (λ i. place_good words count slots n i (caller_entered frames i) (get_or frames i no_frame))
-
--- the search for a frame that is not good: before the first frame, and after the frame at i
-abbrev pub scan : ℕ → Bool → Bool → Scan
-scan i more good = record { at = i; more = more; good = good }
-
-unfoldable pub begun : ℕ → ℕ → Scan
-begun n room = if leb 1 n && leb n (min room most_places) then scan 0 true true else scan 0 false false
-
-unfoldable pub looked : Bool → ℕ → ℕ → Scan
-looked good n i = if good then (if ltb (i + 1) n then scan (i + 1) true true else scan i false true) else scan i false false
 
 -- ---- a run's beginning
 
@@ -99,18 +87,3 @@ pub record TraceFits (words main other : List ℕ) (inner : Frame) (callers : �
   pub there : callers ≤ length frames
   pub first : Readable words main other inner
   pub each : (i : ℕ) → i < callers → Readable words main other (get_or frames i no_frame)
-
--- the next caller to go to, after the one at i
-unfoldable pub left_of : ℕ → Left
-left_of zero = record { at = 0; more = false }
-left_of (suc i) = record { at = i; more = true }
-
-unfoldable pub inside_of : Bool → ℕ → Scan
-inside_of true zero = scan 0 false true
-inside_of true (suc i) = scan i true true
-inside_of false i = scan 0 false false
-
--- an entry is written, of the frame at i of this many callers
-pub record Put (words main other : List ℕ) (callers i : ℕ) (r : Frame) (out out' : List ℕ) (next : Left) : Type 0 where
-  pub is : out' ≡ set (set (set out (3 * (callers - i)) r.function) (3 * (callers - i) + 1) (place_of words main other r)) (3 * (callers - i) + 2) r.entered
-  pub goes : next ≡ left_of i

@@ -1,19 +1,11 @@
 // A backtrace: three numbers to an entry, the function, the place and when it was entered, the innermost frame first.
-ghost use Rattle.std.specs.Prelude.{◌≡◌, ◌∷◌, ◌+◌, ◌-◌, ◌*◌, ◌<◌, ◌≤◌, length, get_or};
+ghost use Rattle.std.specs.Prelude.{◌≡◌, [], ◌∷◌, ◌+◌, ◌-◌, ◌*◌, ◌<◌, ◌≤◌, length, get_or};
 ghost use Rattle.model.specs.Stores.{start, code_word};
-ghost use Rattle.frames.specs.Links.{callers_of, place_of, trace_words, written, inside_good, trace_good, Readable, TraceFits, inside_of, Put};
+ghost use Rattle.frames.specs.Links.{callers_of, place_of, trace_words, written, inside_good, trace_good, Readable, TraceFits};
 
-use crate::order::{Scan, code_length};
-use crate::read_frame;
+use crate::order::code_length;
 use layout::reads::{second, start_of};
 use model::Frame;
-
-// The caller to go to next, if there is one.
-#[derive(Clone, Copy)]
-pub struct Left {
-    pub at: usize,
-    pub more: bool,
-}
 
 // The byte before a position, or byte 0.
 fn byte_before(position: usize) -> usize
@@ -54,32 +46,23 @@ fn place_of(functions: &[u64], main_places: &[u32], other_places: &[u32], f: Fra
     number_at(other_places, begin, byte)
 }
 
-// The entry of the frame f, which stands at place i of the callers; the innermost frame stands behind them.
+// Writes entry k, which is the frame f's.
 fn put_entry(
     functions: &[u64],
     main_places: &[u32],
     other_places: &[u32],
-    callers: usize,
-    i: usize,
+    k: usize,
     f: Frame,
     out: &mut [u64],
-) -> Left
-    requires { Readable functions.now main_places.now other_places.now f × (i ≤ callers) × (3 * callers + 3 ≤ length out.old) }
-    ensures { Put functions.now main_places.now other_places.now callers i f out.old out.new result }
+)
+    requires { Readable functions.now main_places.now other_places.now f × (3 * k + 3 ≤ length out.old) }
+    ensures { out.new ≡ written out.old (3 * k) (trace_words functions.now main_places.now other_places.now (f ∷ [])) }
 {
-    let j = 3 * (callers - i);
+    let j = 3 * k;
     let place = place_of(functions, main_places, other_places, f);
     out[j] = f.function as u64;
     out[j + 1] = place as u64;
     out[j + 2] = f.entered;
-    if i > 0 {
-        let next = i - 1;
-        return Left {
-            at: next,
-            more: true,
-        };
-    }
-    Left { at: 0, more: false }
 }
 
 // Writes the backtrace of the innermost frame and its callers to the first numbers of `out`.
@@ -95,19 +78,16 @@ pub fn trace(
     requires { TraceFits functions.now main_places.now other_places.now inner callers frames.now (length out.old) }
     ensures { out.new ≡ written out.old 0 (trace_words functions.now main_places.now other_places.now (inner ∷ callers_of callers frames.now)) }
 {
-    let mut s = put_entry(
-        functions,
-        main_places,
-        other_places,
-        callers,
-        callers,
-        inner,
-        out,
-    );
-    while s.more {
-        let f = read_frame(frames, s.at);
-        let t = put_entry(functions, main_places, other_places, callers, s.at, f, out);
-        s = t;
+    put_entry(functions, main_places, other_places, 0, inner, out);
+    for i in (0..callers).rev() {
+        put_entry(
+            functions,
+            main_places,
+            other_places,
+            callers - i,
+            frames[i],
+            out,
+        );
     }
 }
 
@@ -124,41 +104,10 @@ fn inside_ok(functions: &[u64], f: Frame) -> bool
     byte < length
 }
 
-fn inside(functions: &[u64], i: usize, f: Frame) -> Scan
-    ensures { result ≡ inside_of (inside_good functions.now f) i }
-{
-    let good = inside_ok(functions, f);
-    if good {
-        if 0 < i {
-            return Scan {
-                at: i - 1,
-                more: true,
-                good: true,
-            };
-        }
-        return Scan {
-            at: 0,
-            more: false,
-            good: true,
-        };
-    }
-    Scan {
-        at: 0,
-        more: false,
-        good: false,
-    }
-}
-
 // Whether the place of every frame of the backtrace lies inside its code.
 pub fn traceable(functions: &[u64], inner: Frame, callers: usize, frames: &[Frame]) -> bool
     requires { callers ≤ length frames.now }
     ensures { result ≡ trace_good functions.now (inner ∷ callers_of callers frames.now) }
 {
-    let mut s = inside(functions, callers, inner);
-    while s.more {
-        let f = read_frame(frames, s.at);
-        let t = inside(functions, s.at, f);
-        s = t;
-    }
-    s.good
+    inside_ok(functions, inner) && frames[..callers].iter().all(|f| inside_ok(functions, *f))
 }

@@ -9,7 +9,7 @@ use lib.Dec.{eqb}
 use lib.ListN.{length, take, drop, length-drop}
 use lib.Seq.{length-take-le}
 use borrow.Author.Tests.{ne_eqb, not-true, le-leb}
-use Rattle.model.specs.Values.{places, kind_at, payload_at, text_at}
+use Rattle.model.specs.Values.{kind_at, payload_at, text_at}
 use Rattle.model.specs.Equality.{same_bytes}
 use Rattle.model.specs.Programs.{among, code_limit, constant_limit, name_limit, codes_within, within_limits}
 use Rattle.model.specs.Images.{Small, SoundConstant, SoundName, SoundFunction, AllSmall, Each, always, snoc, main_first, Sound}

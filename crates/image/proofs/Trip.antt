@@ -18,8 +18,6 @@ use Rattle.model.specs.Emission.{written}
 use Rattle.model.specs.Orders.{program_ok}
 use Rattle.model.specs.Loading.{laid, counts_for, room_for, LoadRes, load_judged, load_of, OutRes, put_out, save_of}
 use Rattle.model.specs.declared.Counts.{Counts}
-use Rattle.model.specs.declared.Loaded.TheVariants as l
-use Rattle.model.specs.declared.Told.TheVariants as t
 use Rattle.layout.proofs.Bools.{either_way}
 use Rattle.layout.proofs.Parts.{one_word}
 use Rattle.laws_images.proofs.Formats.{judge_back, judge_only}
@@ -27,6 +25,9 @@ use Rattle.laws_images.proofs.Held.{written_front}
 use Rattle.image_load.proofs.Loaded.{laid_again}
 use Rattle.image.specs.Loads.{Below, LoadsAs}
 use Rattle.image.proofs.Sounds.{order_sound, order_within}
+use Rattle.std.specs.Prelude.{Err, Ok, Result}
+use Rattle.model.specs.declared.Refusal.{Refusal}
+use Rattle.model.specs.declared.Refusal.TheVariants as why
 
 pub image_back : (p : Program) → Sound p → judge (image_of p) ≡ fine p
 image_back = judge_back
@@ -53,30 +54,28 @@ loaded_stands = laid_again
 Done : Judged → Stores → Counts → Stores → Type 0
 Done r x c y = (p : Program) × (r ≡ fine p) × (within_limits p ≡ true) × (room_for p x ≡ true) × (counts_for p ≡ c) × (laid p x ≡ y)
 
-done_same : {a b : Counts} → l.Done a ≡ l.Done b → a ≡ b
-done_same e = cc
+-- what is answered is one answer, and a refusal is none
+same_answer : {A : Type 0} {a b : A} → ◌≡◌ {A = Result A Refusal} (Ok a) (Ok b) → a ≡ b
+same_answer e = cc
 
-not_done : {n : ℕ} {c : Counts} → l.Refused n ≡ l.Done c → ⊥
-not_done e = let z : ◌≡◌ {A = ℕ} 0 1 = cc in omega arith
+no_answer : {A : Type 0} {a : A} {e : Refusal} → ◌≡◌ {A = Result A Refusal} (Err e) (Ok a) → ⊥
+no_answer e = let z : ◌≡◌ {A = ℕ} 0 1 = cc in omega arith
 
-not_broken : {n : ℕ} {c : Counts} → l.Broken n ≡ l.Done c → ⊥
-not_broken e = let z : ◌≡◌ {A = ℕ} 0 1 = cc in omega arith
-
-done_only : (r : Judged) (x : Stores) (c : Counts) (y : Stores) → load_judged r x ≡ record { answer = l.Done c; stores = y } → Done r x c y
+done_only : (r : Judged) (x : Stores) (c : Counts) (y : Stores) → load_judged r x ≡ record { answer = Ok c; stores = y } → Done r x c y
 unfolding load_judged Done
-done_only (broken i) x c y e = absurd (not_broken (ap (λ (k : LoadRes). k.answer) e))
+done_only (broken i) x c y e = absurd (no_answer (ap (λ (k : LoadRes). k.answer) e))
 done_only (fine p) x c y e =
     either_way (within_limits p)
     (λ h. either_way (room_for p x)
-    (λ r. let g : ◌≡◌ {A = LoadRes} (record { answer = l.Done (counts_for p); stores = laid p x }) (record { answer = l.Done c; stores = y }) = rw (h, r) at e in
-    (p, refl, h, r, done_same (ap (λ (k : LoadRes). k.answer) g), ap (λ (k : LoadRes). k.stores) g))
-    (λ r. let g : ◌≡◌ {A = LoadRes} (record { answer = l.Refused 21; stores = x }) (record { answer = l.Done c; stores = y }) = rw (h, r) at e in
-    absurd (not_done (ap (λ (k : LoadRes). k.answer) g))))
-    (λ h. let g : ◌≡◌ {A = LoadRes} (record { answer = l.Refused 22; stores = x }) (record { answer = l.Done c; stores = y }) = rw h at e in
-    absurd (not_done (ap (λ (k : LoadRes). k.answer) g)))
+    (λ r. let g : ◌≡◌ {A = LoadRes} (record { answer = Ok (counts_for p); stores = laid p x }) (record { answer = Ok c; stores = y }) = rw (h, r) at e in
+    (p, refl, h, r, same_answer (ap (λ (k : LoadRes). k.answer) g), ap (λ (k : LoadRes). k.stores) g))
+    (λ r. let g : ◌≡◌ {A = LoadRes} (record { answer = Err why.StoreFull; stores = x }) (record { answer = Ok c; stores = y }) = rw (h, r) at e in
+    absurd (no_answer (ap (λ (k : LoadRes). k.answer) g))))
+    (λ h. let g : ◌≡◌ {A = LoadRes} (record { answer = Err why.OverLimit; stores = x }) (record { answer = Ok c; stores = y }) = rw h at e in
+    absurd (no_answer (ap (λ (k : LoadRes). k.answer) g)))
 
 -- what was loaded is in good order, and stands for the program whose image it was loaded from
-pub loaded_as : (b : List ℕ) (x y : Stores) (c : Counts) → Bytes b → load_of b x ≡ record { answer = l.Done c; stores = y }
+pub loaded_as : (b : List ℕ) (x y : Stores) (c : Counts) → Bytes b → load_of b x ≡ record { answer = Ok c; stores = y }
     → (b ≡ image_of (program_in c y)) × (program_ok c y ≡ true)
 unfolding load_of Done
 loaded_as b x y c h e =
@@ -88,7 +87,7 @@ loaded_as b x y c h e =
     )
 
 -- what was loaded is saved again as the same bytes
-pub load_then_save : (b : List ℕ) (x y : Stores) (c : Counts) (out : List ℕ) → Bytes b → load_of b x ≡ record { answer = l.Done c; stores = y } → save_of c y out ≡ put_out b out
+pub load_then_save : (b : List ℕ) (x y : Stores) (c : Counts) (out : List ℕ) → Bytes b → load_of b x ≡ record { answer = Ok c; stores = y } → save_of c y out ≡ put_out b out
 unfolding save_of
 load_then_save b x y c out h e = let s = loaded_as b x y c h e in rw (s.1, ← s.0)
 
@@ -101,35 +100,29 @@ save_then_load c x ok a b d =
 
 -- ---- through the entries: the bytes that `save` wrote are accepted by `load`
 
-number_same : {a b : ℕ} → t.Number a ≡ t.Number b → a ≡ b
-number_same e = cc
-
-not_number : {a b : ℕ} → t.Refused a ≡ t.Number b → ⊥
-not_number e = let z : ◌≡◌ {A = ℕ} 0 1 = cc in omega arith
-
 -- where the store has the room, the bytes that were put out stand at its front
-put_front : (bytes out out' : List ℕ) (n : ℕ) → put_out bytes out ≡ record { answer = t.Number n; out = out' } → take n out' ≡ bytes
+put_front : (bytes out out' : List ℕ) (n : ℕ) → put_out bytes out ≡ record { answer = Ok n; out = out' } → take n out' ≡ bytes
 unfolding put_out
 put_front bytes out out' n e = either_way (leb (length bytes) (places 1 out))
     (λ h.
-    let g : ◌≡◌ {A = OutRes} (record { answer = t.Number (length bytes); out = written out 0 bytes }) (record { answer = t.Number n; out = out' }) = rw h at e in
-    let k : length bytes ≡ n = number_same (ap (λ (x : OutRes). x.answer) g) in
+    let g : ◌≡◌ {A = OutRes} (record { answer = Ok (length bytes); out = written out 0 bytes }) (record { answer = Ok n; out = out' }) = rw h at e in
+    let k : length bytes ≡ n = same_answer (ap (λ (x : OutRes). x.answer) g) in
     let fits : length bytes ≤ length out = (one_word (length bytes) out (leb-true _ _ h)).0 in
     let o : out' ≡ bytes ++ drop (length bytes) out = sym (ap (λ (x : OutRes). x.out) g) ∙ written_front out bytes fits in
     rw o (take_at bytes (drop (length bytes) out) n k))
     (λ h.
-    let g : ◌≡◌ {A = OutRes} (record { answer = t.Refused 17; out = out }) (record { answer = t.Number n; out = out' }) = rw h at e in
-    absurd (not_number (ap (λ (x : OutRes). x.answer) g)))
+    let g : ◌≡◌ {A = OutRes} (record { answer = Err why.ResultTooShort; out = out }) (record { answer = Ok n; out = out' }) = rw h at e in
+    absurd (no_answer (ap (λ (x : OutRes). x.answer) g)))
 
 -- what `save` wrote is the image of the program, which was in good order
-saved_as : (c : Counts) (x : Stores) (out out' : List ℕ) (n : ℕ) → save_of c x out ≡ record { answer = t.Number n; out = out' }
+saved_as : (c : Counts) (x : Stores) (out out' : List ℕ) (n : ℕ) → save_of c x out ≡ record { answer = Ok n; out = out' }
     → (program_ok c x ≡ true) × (take n out' ≡ image_of (program_in c x))
 unfolding save_of
 saved_as c x out out' n e = either_way (program_ok c x)
     (λ h. (h, put_front (image_of (program_in c x)) out out' n (rw h at e)))
     (λ h.
-    let g : ◌≡◌ {A = OutRes} (record { answer = t.Refused 19; out = out }) (record { answer = t.Number n; out = out' }) = rw h at e in
-    absurd (not_number (ap (λ (x : OutRes). x.answer) g)))
+    let g : ◌≡◌ {A = OutRes} (record { answer = Err why.NotInOrder; out = out }) (record { answer = Ok n; out = out' }) = rw h at e in
+    absurd (no_answer (ap (λ (x : OutRes). x.answer) g)))
 
 -- a sound program within the limits is loaded wherever there is room
 pub image_loads : (p : Program) (y : Stores) → Sound p → within_limits p ≡ true → room_for p y ≡ true → LoadsAs p (image_of p) y
@@ -137,7 +130,7 @@ unfolding load_of load_judged
 image_loads p y s w r = let k = loaded_stands p y s w r in record { accepted = rw (image_back p s, w, r); order = k.0; program = k.1 }
 
 -- the n bytes that `save` wrote load as the same program in any stores that have the room for it
-pub saved_loads : (c : Counts) (x y : Stores) (out out' : List ℕ) (n : ℕ) → save_of c x out ≡ record { answer = t.Number n; out = out' }
+pub saved_loads : (c : Counts) (x y : Stores) (out out' : List ℕ) (n : ℕ) → save_of c x out ≡ record { answer = Ok n; out = out' }
     → Below (2 ^ 64) x.constants → Below (2 ^ 32) x.main_places → Below (2 ^ 32) x.other_places
     → room_for (program_in c x) y ≡ true → LoadsAs (program_in c x) (take n out') y
 saved_loads c x y out out' n e a b d r =

@@ -4,7 +4,7 @@
 ghost use Rattle.std.specs.Prelude.{◌≤◌, length};
 ghost use Rattle.image_codes.specs.Links.{CodePost};
 
-use image_judge::{Begun, Behind, check_runs, read_head};
+use image_judge::{check_runs, read_head};
 
 // The code of a function, and where the next function begins.
 #[derive(Clone, Copy)]
@@ -24,12 +24,12 @@ pub fn code_at(image: &[u8], at: usize, first: bool) -> Code
         size: 0,
         next: at,
     };
-    let Begun::Is(h) = read_head(image, at, first) else {
+    let Ok(h) = read_head(image, at, first) else {
         return none;
     };
     let from = h.code;
     let size = h.size;
-    let Behind::At(next) = check_runs(image, from + size, size) else {
+    let Ok(next) = check_runs(image, from + size, size) else {
         return none;
     };
     Code { from, size, next }

@@ -1,5 +1,5 @@
 -- Which item begins at an offset: what the code reads is what the definitions read.
-use Rattle.std.specs.Prelude.{if◌then◌else◌}
+use Rattle.std.specs.Prelude.{if◌then◌else◌, Err, None, Ok, Option, Result, Some}
 use mathlib.Core.Path.{◌≡◌, sym, ap, ◌∙◌}
 use mathlib.Core.List.{List}
 use Prim.Native.Nat.{ℕ, suc, ◌+◌, ◌-◌, ◌≤◌, ◌<◌}
@@ -9,16 +9,8 @@ use lib.ListN.{length, drop, length-drop}
 use borrow.Author.Tests.{eq-eqb, ne_eqb, lt-ltb, le-ltb}
 use Rattle.model.specs.Numbers.{Step}
 use Rattle.model.specs.Images.{read_constant}
-use Rattle.number.specs.declared.Num.{Num}
-use Rattle.number.specs.declared.Num.TheVariants as n
 use Rattle.number.specs.Links.{NumPost}
-use Rattle.image_judge.specs.declared.Text.{Text}
-use Rattle.image_judge.specs.declared.Text.TheVariants as t
 use Rattle.image_judge.specs.declared.Entry.{Entry}
-use Rattle.image_judge.specs.declared.Item.{Item}
-use Rattle.image_judge.specs.declared.Item.TheVariants as item
-use Rattle.image_judge.specs.declared.Behind.{Behind}
-use Rattle.image_judge.specs.declared.Behind.TheVariants as b
 use Rattle.image_judge.specs.Links.{Good, Bad, TextPost, ItemPost, RunsPost, runs_for}
 use Rattle.image_judge.proofs.Items.{part_read, part_short, text_is, text_not, text_end, entry_is, entry_not}
 use Rattle.image_judge.proofs.Reading.{no_number_lem, a_number}
@@ -30,6 +22,8 @@ use Rattle.image_items.specs.declared.Part.TheVariants as p
 use Rattle.image_items.specs.declared.Sought.{Sought}
 use Rattle.image_items.specs.declared.Sought.TheVariants as q
 use Rattle.image_items.specs.Parts.{passing, constant_part, struct_part, places_part, code_part, function_part, entry_part, onward, row_part, section_part, at_end, part_at, Inside, SoughtPost}
+use Rattle.image_judge.specs.declared.Broken.{Broken}
+use Rattle.image_judge.specs.declared.Broken.TheVariants.{At}
 
 -- ---- behind what was read
 
@@ -60,23 +54,23 @@ module _ (s : List ℕ) (o k at : ℕ) (within : at ≤ length s) where
   unfolding constant_part
   kind_here h = found (rw (eq-eqb at o h))
 
-  module _ (h : at ≡ o → ⊥) {r : Num} (num : NumPost s at r) where
-    pub no_kind : r ≡ n.Broken → SoughtPost s (constant_part s o k at) (q.Is p.Nowhere)
+  module _ (h : at ≡ o → ⊥) {r : Option (ℕ × ℕ)} (num : NumPost s at r) where
+    pub no_kind : r ≡ None → SoughtPost s (constant_part s o k at) (q.Is p.Nowhere)
     unfolding constant_part
     no_kind e = found (rw (ne_eqb at o h) (not_passed _ (no_number_lem s at r num within e)))
 
-    module _ {kind value : ℕ} (e : r ≡ n.Number kind value) where
+    module _ {kind value : ℕ} (e : r ≡ Some (kind, value)) where
       pub value_here : value ≡ o → SoughtPost s (constant_part s o k at) (q.Is (p.Value k))
       unfolding constant_part
       value_here g = found (rw (ne_eqb at o h) (passed _ (a_number s at r num kind value e) ∙ rw (eq-eqb value o g)))
 
-      module _ (g : value ≡ o → ⊥) {x : Item} (post : ItemPost (read_constant tt) s at x) where
-        pub no_constant : {i : ℕ} → x ≡ item.Broken i → SoughtPost s (constant_part s o k at) (q.Is p.Nowhere)
+      module _ (g : value ≡ o → ⊥) {x : Result Entry Broken} (post : ItemPost (read_constant tt) s at x) where
+        pub no_constant : {b : Broken} → x ≡ Err b → SoughtPost s (constant_part s o k at) (q.Is p.Nowhere)
         unfolding constant_part
-        no_constant {i} f =
+        no_constant {b = At i} f =
             found (rw (ne_eqb at o h) (passed _ (a_number s at r num kind value e) ∙ rw (ne_eqb value o g) (not_passed _ (entry_not (read_constant tt) s at x post i f))))
 
-        pub constant_over : {y : Entry} → x ≡ item.Is y → SoughtPost s (constant_part s o k at) (q.On y.next)
+        pub constant_over : {y : Entry} → x ≡ Ok y → SoughtPost s (constant_part s o k at) (q.On y.next)
         unfolding constant_part
         constant_over {y} f =
             let good = (entry_is (read_constant tt) s at x post y f).good in
@@ -89,12 +83,12 @@ module _ (s : List ℕ) (o k at : ℕ) where
   unfolding struct_part
   struct_here h = found (rw (eq-eqb at o h))
 
-  module _ (h : at ≡ o → ⊥) {r : Text} (text : TextPost s at r) where
-    pub no_struct : r ≡ t.Broken → SoughtPost s (struct_part s o k at) (q.Is p.Nowhere)
+  module _ (h : at ≡ o → ⊥) {r : Option (ℕ × ℕ)} (text : TextPost s at r) where
+    pub no_struct : r ≡ None → SoughtPost s (struct_part s o k at) (q.Is p.Nowhere)
     unfolding struct_part
     no_struct e = found (rw (ne_eqb at o h) (not_passed _ (text_not s at r text e)))
 
-    pub struct_over : {i m : ℕ} → r ≡ t.At i m → SoughtPost s (struct_part s o k at) (q.On (i + m))
+    pub struct_over : {i m : ℕ} → r ≡ Some (i, m) → SoughtPost s (struct_part s o k at) (q.On (i + m))
     unfolding struct_part
     struct_over {i} {m} e = goes (rw (ne_eqb at o h) (passed _ (text_is s at r text i m e).good)) (text_end s at r text i m e)
 
@@ -110,16 +104,16 @@ module _ (s : List ℕ) (o k m code : ℕ) (within : code ≤ length s) where
     unfolding code_part
     code_cut l = found (rw (ne_eqb code o h) (not_passed _ (part_short s code m within l)))
 
-    module _ (l : m ≤ length s - code) {r : Behind} (runs : RunsPost s (code + m) m r) where
+    module _ (l : m ≤ length s - code) {r : Result ℕ Broken} (runs : RunsPost s (code + m) m r) where
       before_them : code_part s o k m code ≡ places_part s o k (runs_for m (drop (code + m) s))
       unfolding code_part
       before_them = rw (ne_eqb code o h) (passed _ (part_read s code m within l))
 
-      pub places_broken : {i : ℕ} → r ≡ b.Broken i → SoughtPost s (code_part s o k m code) (q.Is (p.Places k))
+      pub places_broken : {b : Broken} → r ≡ Err b → SoughtPost s (code_part s o k m code) (q.Is (p.Places k))
       unfolding places_part
-      places_broken {i} e = found (before_them ∙ rw (runs_not s (code + m) m r runs i e).means)
+      places_broken {b = At i} e = found (before_them ∙ rw (runs_not s (code + m) m r runs i e).means)
 
-      module _ {next : ℕ} (e : r ≡ b.At next) where
+      module _ {next : ℕ} (e : r ≡ Ok next) where
         placed : places_part s o k (runs_for m (drop (code + m) s)) ≡ (if ltb o next then q.Is (p.Places k) else q.On next)
         unfolding places_part
         placed =
@@ -142,23 +136,23 @@ module _ (s : List ℕ) (o k at : ℕ) where
   unfolding function_part
   name_here h = found (rw (eq-eqb at o h))
 
-  module _ (h : at ≡ o → ⊥) {r : Text} (text : TextPost s at r) where
-    pub no_name : r ≡ t.Broken → SoughtPost s (function_part s o k at) (q.Is p.Nowhere)
+  module _ (h : at ≡ o → ⊥) {r : Option (ℕ × ℕ)} (text : TextPost s at r) where
+    pub no_name : r ≡ None → SoughtPost s (function_part s o k at) (q.Is p.Nowhere)
     unfolding function_part
     no_name e = found (rw (ne_eqb at o h) (not_passed _ (text_not s at r text e)))
 
-    module _ {i m : ℕ} (e : r ≡ t.At i m) where
+    module _ {i m : ℕ} (e : r ≡ Some (i, m)) where
       pub length_here : i + m ≡ o → SoughtPost s (function_part s o k at) (q.Is (p.Length k))
       unfolding function_part
       length_here g = found (rw (ne_eqb at o h) (passed _ (text_is s at r text i m e).good ∙ rw (eq-eqb (i + m) o g)))
 
-      module _ (g : i + m ≡ o → ⊥) {x : Num} (num : NumPost s (i + m) x) where
-        pub no_length : x ≡ n.Broken → SoughtPost s (function_part s o k at) (q.Is p.Nowhere)
+      module _ (g : i + m ≡ o → ⊥) {x : Option (ℕ × ℕ)} (num : NumPost s (i + m) x) where
+        pub no_length : x ≡ None → SoughtPost s (function_part s o k at) (q.Is p.Nowhere)
         unfolding function_part
         no_length f =
             found (rw (ne_eqb at o h) (passed _ (text_is s at r text i m e).good ∙ rw (ne_eqb (i + m) o g) (not_passed _ (no_number_lem s (i + m) x num (text_end s at r text i m e) f))))
 
-        pub code_sought : {v code : ℕ} → x ≡ n.Number v code → {size : ℕ} → (size ≡ v) × (size < 4294967296) → {y : Sought} → SoughtPost s (code_part s o k size code) y
+        pub code_sought : {v code : ℕ} → x ≡ Some (v, code) → {size : ℕ} → (size ≡ v) × (size < 4294967296) → {y : Sought} → SoughtPost s (code_part s o k size code) y
             → SoughtPost s (function_part s o k at) y
         unfolding function_part
         code_sought {v} {code} f z y =
@@ -167,7 +161,7 @@ module _ (s : List ℕ) (o k at : ℕ) where
             record { is = y.is ∙ ap (λ (j : ℕ). code_part s o k j code) z.0 ∙ sym read; inside = y.inside }
 
 -- a number ends inside
-pub number_ends : (s : List ℕ) (at : ℕ) (r : Num) → NumPost s at r → (v next : ℕ) → r ≡ n.Number v next → next ≤ length s
+pub number_ends : (s : List ℕ) (at : ℕ) (r : Option (ℕ × ℕ)) → NumPost s at r → (v next : ℕ) → r ≡ Some (v, next) → next ≤ length s
 number_ends s at r num v next e = (a_number s at r num v next e).within
 
 -- ---- an entry of a row
@@ -224,12 +218,12 @@ module _ (row : Row) (s : List ℕ) (o at : ℕ) (within : at ≤ length s) wher
   unfolding section_part
   count_here h = found (rw (eq-eqb at o h))
 
-  module _ (h : at ≡ o → ⊥) {r : Num} (num : NumPost s at r) where
-    pub no_count : r ≡ n.Broken → SoughtPost s (section_part row s o at) (q.Is p.Nowhere)
+  module _ (h : at ≡ o → ⊥) {r : Option (ℕ × ℕ)} (num : NumPost s at r) where
+    pub no_count : r ≡ None → SoughtPost s (section_part row s o at) (q.Is p.Nowhere)
     unfolding section_part
     no_count e = found (rw (ne_eqb at o h) (not_passed _ (no_number_lem s at r num within e)))
 
-    pub row_sought : {v first : ℕ} → r ≡ n.Number v first → {m : ℕ} → (m ≡ v) × (m < 4294967296) → {y : Sought} → SoughtPost s (row_part row s o 0 m first) y
+    pub row_sought : {v first : ℕ} → r ≡ Some (v, first) → {m : ℕ} → (m ≡ v) × (m < 4294967296) → {y : Sought} → SoughtPost s (row_part row s o 0 m first) y
         → SoughtPost s (section_part row s o at) y
     unfolding section_part
     row_sought {v} {first} e z y =

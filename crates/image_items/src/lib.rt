@@ -4,8 +4,8 @@
 ghost use Rattle.std.specs.Prelude.{◌≡◌, ◌≤◌, length};
 ghost use Rattle.image_items.specs.Parts.{part_at, constant_part, struct_part, code_part, function_part, entry_part, row_part, section_part, SoughtPost};
 
-use image_judge::{Behind, Item, Text, check_runs, read_constant, read_text, wide};
-use number::{Num, read_number};
+use image_judge::{check_runs, read_constant, read_text, wide};
+use number::read_number;
 
 // The three rows of an image, each behind its count.
 #[derive(Clone, Copy)]
@@ -48,13 +48,13 @@ fn constant_part(image: &[u8], o: usize, k: usize, at: usize) -> Sought
     if at == o {
         return Sought::Is(Part::Kind(k));
     }
-    let Num::Number(_, value) = read_number(image, at) else {
+    let Some((_, value)) = read_number(image, at) else {
         return Sought::Is(Part::Nowhere);
     };
     if value == o {
         return Sought::Is(Part::Value(k));
     }
-    let Item::Is(p) = read_constant(image, at) else {
+    let Ok(p) = read_constant(image, at) else {
         return Sought::Is(Part::Nowhere);
     };
     Sought::On(p.next)
@@ -68,7 +68,7 @@ fn struct_part(image: &[u8], o: usize, k: usize, at: usize) -> Sought
     if at == o {
         return Sought::Is(Part::Struct(k));
     }
-    let Text::At(from, len) = read_text(image, at) else {
+    let Some((from, len)) = read_text(image, at) else {
         return Sought::Is(Part::Nowhere);
     };
     let next = from + len;
@@ -86,7 +86,7 @@ fn code_part(image: &[u8], o: usize, k: usize, n: usize, code: usize) -> Sought
     if image.len() - code < n {
         return Sought::Is(Part::Nowhere);
     }
-    let Behind::At(next) = check_runs(image, code + n, n) else {
+    let Ok(next) = check_runs(image, code + n, n) else {
         return Sought::Is(Part::Places(k));
     };
     if o < next {
@@ -103,14 +103,14 @@ fn function_part(image: &[u8], o: usize, k: usize, at: usize) -> Sought
     if at == o {
         return Sought::Is(Part::Name(k));
     }
-    let Text::At(from, len) = read_text(image, at) else {
+    let Some((from, len)) = read_text(image, at) else {
         return Sought::Is(Part::Nowhere);
     };
     let behind = from + len;
     if behind == o {
         return Sought::Is(Part::Length(k));
     }
-    let Num::Number(n, code) = read_number(image, behind) else {
+    let Some((n, code)) = read_number(image, behind) else {
         return Sought::Is(Part::Nowhere);
     };
     let size = wide(n);
@@ -137,14 +137,12 @@ fn row_part(w: Row, image: &[u8], o: usize, n: usize, at: usize) -> Sought
     ensures { SoughtPost image.now (row_part w image.now o 0 n at) result }
 {
     let mut next = at;
-    let mut k = 0;
-    while k < n {
+    for k in 0..n {
         let found = entry_part(w, image, o, k, next);
         let Sought::On(behind) = found else {
             return found;
         };
         next = behind;
-        k += 1;
     }
     Sought::On(next)
 }
@@ -157,7 +155,7 @@ fn section_part(w: Row, image: &[u8], o: usize, at: usize) -> Sought
     if at == o {
         return Sought::Is(Part::Count(w));
     }
-    let Num::Number(n, first) = read_number(image, at) else {
+    let Some((n, first)) = read_number(image, at) else {
         return Sought::Is(Part::Nowhere);
     };
     let count = wide(n);

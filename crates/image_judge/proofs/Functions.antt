@@ -14,28 +14,18 @@ use Rattle.model.specs.Equality.{same_bytes}
 use Rattle.model.specs.Programs.{Function, function_at, main_name, codes_within}
 use Rattle.model.specs.Images.{joined, series, read_text, main_first, read_function, read_functions}
 use Rattle.number.specs.Links.{NumPost}
-use Rattle.number.specs.declared.Num.{Num}
-use Rattle.number.specs.declared.Num.TheVariants as n
 use Rattle.image_judge.specs.Links.{Good, Bad, part_of, TextPost, runs_for, RunsAt, BehindIs, RunsPost, function_of, HeadAt, BegunIs, HeadPost, SpanAt, SpannedIs, SpanPost, others_for, OthersAt, RestIs, OthersPost, functions_for, FunctionsPost}
-use Rattle.image_judge.specs.declared.Text.{Text}
-use Rattle.image_judge.specs.declared.Text.TheVariants as t
-use Rattle.image_judge.specs.declared.Behind.{Behind}
-use Rattle.image_judge.specs.declared.Behind.TheVariants as b
 use Rattle.image_judge.specs.declared.Head.{Head}
-use Rattle.image_judge.specs.declared.Begun.{Begun}
-use Rattle.image_judge.specs.declared.Begun.TheVariants as h
 use Rattle.image_judge.specs.declared.Span.{Span}
-use Rattle.image_judge.specs.declared.Spanned.{Spanned}
-use Rattle.image_judge.specs.declared.Spanned.TheVariants as p
 use Rattle.image_judge.specs.declared.Others.{Others}
-use Rattle.image_judge.specs.declared.Rest.{Rest}
-use Rattle.image_judge.specs.declared.Rest.TheVariants as o
-use Rattle.image_judge.specs.declared.Coded.TheVariants as d
 use Rattle.laws_images.proofs.Codecs.{got_value, then_only, made_only}
 use Rattle.laws_images.proofs.Formats.{read_places, read_code}
 use Rattle.image_judge.proofs.Reading.{Along, along_start, along_end, along_bad, along_step, joined_length, bad_first, bad_second, good_both, bad_test, bad_tested, good_test, no_number_lem}
 use Rattle.image_judge.proofs.Items.{part_length, part_slice, part_read, part_short, text_is, text_not}
 use Rattle.image_judge.proofs.Passes.{counted_at}
+use Rattle.std.specs.Prelude.{Err, None, Ok, Option, Result, Some}
+use Rattle.image_judge.specs.declared.Broken.{Broken}
+use Rattle.image_judge.specs.declared.Broken.TheVariants.{At}
 
 -- ---- a name
 
@@ -53,42 +43,42 @@ may_other first nm f = rw f
 abbrev after_name : List ℕ → List ℕ → Step Function
 after_name nm r = and_then (number r) (read_code nm)
 
-module _ (first : Bool) (s : List ℕ) (at : ℕ) (x : Text) (q : TextPost s at x) where
-  pub head_none : x ≡ t.Broken → HeadPost first s at (h.Broken at)
+module _ (first : Bool) (s : List ℕ) (at : ℕ) (x : Option (ℕ × ℕ)) (q : TextPost s at x) where
+  pub head_none : x ≡ None → HeadPost first s at (Err (At at))
   unfolding read_function
   head_none e = record { is = bad_first after_name (bad_tested (main_first first) (text_not s at x q e)) }
 
-  module _ (nm len : ℕ) (e : x ≡ t.At nm len) (m : Bool) (em : m ≡ main_first first (take (nm + len - nm) (drop nm s))) where
+  module _ (nm len : ℕ) (e : x ≡ Some (nm, len)) (m : Bool) (em : m ≡ main_first first (take (nm + len - nm) (drop nm s))) where
     pub head_behind : nm + len ≤ length s
     head_behind = (text_is s at x q nm len e).good.within
 
     tells : m ≡ main_first first (part_of s nm len)
     tells = em ∙ ap (main_first first) (part_slice s nm len)
 
-    pub head_other : m ≡ false → HeadPost first s at (h.Broken at)
+    pub head_other : m ≡ false → HeadPost first s at (Err (At at))
     unfolding read_function
     head_other f = record { is = bad_first after_name (bad_test (main_first first) (text_is s at x q nm len e).good (sym tells ∙ f)) }
 
-    module _ (f : m ≡ true) (y : Num) (w : NumPost s (nm + len) y) where
+    module _ (f : m ≡ true) (y : Option (ℕ × ℕ)) (w : NumPost s (nm + len) y) where
       named : Good (λ b. item b (checked (main_first first) (read_text b))) s at (nm + len) (part_of s nm len)
       named = good_test (main_first first) (text_is s at x q nm len e).good (sym tells ∙ f)
 
-      pub head_no_size : y ≡ n.Broken → HeadPost first s at (h.Broken (nm + len))
+      pub head_no_size : y ≡ None → HeadPost first s at (Err (At (nm + len)))
       unfolding read_function
       head_no_size g = record { is = bad_second after_name named (bad_first (read_code (part_of s nm len)) (no_number_lem s (nm + len) y w head_behind g)) }
 
-      module _ (v code size : ℕ) (g : y ≡ n.Number v code) (k : (size ≡ v) × (size < 4294967296)) where
+      module _ (v code size : ℕ) (g : y ≡ Some (v, code)) (k : (size ≡ v) × (size < 4294967296)) where
         sized : Good number s (nm + len) code size
         sized = counted_at s (nm + len) y w v code size g k
 
         pub head_code : code ≤ length s
         head_code = sized.within
 
-        pub head_short : length s - code < size → HeadPost first s at (h.Broken code)
+        pub head_short : length s - code < size → HeadPost first s at (Err (At code))
         unfolding read_function
         head_short l = record { is = bad_second after_name named (bad_second (read_code (part_of s nm len)) sized (bad_first (read_places (part_of s nm len)) (part_short s code size head_code l))) }
 
-        pub head_read : size ≤ length s - code → HeadPost first s at (h.Is (record { name = nm; len = len; code = code; size = size }))
+        pub head_read : size ≤ length s - code → HeadPost first s at (Ok (record { name = nm; len = len; code = code; size = size }))
         unfolding read_function and_then function_of runs_for
         head_read l =
             let c = part_read s code size head_code l in
@@ -103,37 +93,37 @@ module _ (first : Bool) (s : List ℕ) (at : ℕ) (x : Text) (q : TextPost s at 
               };
             }
 
-pub head_is : (first : Bool) (s : List ℕ) (at : ℕ) (r : Begun) → HeadPost first s at r → (x : Head) → r ≡ h.Is x → HeadAt first s at x
+pub head_is : (first : Bool) (s : List ℕ) (at : ℕ) (r : Result Head Broken) → HeadPost first s at r → (x : Head) → r ≡ Ok x → HeadAt first s at x
 head_is first s at r w x e = subst (BegunIs first s at) e w.is
 
-pub head_not : (first : Bool) (s : List ℕ) (at : ℕ) (r : Begun) → HeadPost first s at r → (k : ℕ) → r ≡ h.Broken k → Bad (read_function first) s at k
+pub head_not : (first : Bool) (s : List ℕ) (at : ℕ) (r : Result Head Broken) → HeadPost first s at r → (k : ℕ) → r ≡ Err (At k) → Bad (read_function first) s at k
 head_not first s at r w k e = subst (BegunIs first s at) e w.is
 
-pub runs_is : (s : List ℕ) (at size : ℕ) (r : Behind) → RunsPost s at size r → (next : ℕ) → r ≡ b.At next → RunsAt s at size next
+pub runs_is : (s : List ℕ) (at size : ℕ) (r : Result ℕ Broken) → RunsPost s at size r → (next : ℕ) → r ≡ Ok next → RunsAt s at size next
 runs_is s at size r w next e = subst (BehindIs s at size) e w.is
 
-pub runs_not : (s : List ℕ) (at size : ℕ) (r : Behind) → RunsPost s at size r → (k : ℕ) → r ≡ b.Broken k → Bad (runs_for size) s at k
+pub runs_not : (s : List ℕ) (at size : ℕ) (r : Result ℕ Broken) → RunsPost s at size r → (k : ℕ) → r ≡ Err (At k) → Bad (runs_for size) s at k
 runs_not s at size r w k e = subst (BehindIs s at size) e w.is
 
 -- ---- a whole function
 
-module _ (first : Bool) (s : List ℕ) (at : ℕ) (r : Begun) (w : HeadPost first s at r) where
-  pub span_none : (k : ℕ) → r ≡ h.Broken k → SpanPost first s at (p.Broken k)
-  span_none k e = record { is = head_not first s at r w k e }
+module _ (first : Bool) (s : List ℕ) (at : ℕ) (r : Result Head Broken) (w : HeadPost first s at r) where
+  pub span_none : (b : Broken) → r ≡ Err b → SpanPost first s at (Err b)
+  span_none (At k) e = record { is = head_not first s at r w k e }
 
-  module _ (x : Head) (e : r ≡ h.Is x) where
+  module _ (x : Head) (e : r ≡ Ok x) where
     pub span_runs : x.code + x.size ≤ length s
     span_runs = (head_is first s at r w x e).code
 
-    module _ (y : Behind) (v : RunsPost s (x.code + x.size) x.size y) where
-      pub span_bad : (k : ℕ) → y ≡ b.Broken k → SpanPost first s at (p.Broken k)
+    module _ (y : Result ℕ Broken) (v : RunsPost s (x.code + x.size) x.size y) where
+      pub span_bad : (b : Broken) → y ≡ Err b → SpanPost first s at (Err b)
       unfolding and_then
-      span_bad k f =
+      span_bad (At k) f =
           let g = runs_not s (x.code + x.size) x.size y v k f in let z = head_is first s at r w x e in
           let a = z.room in let c = g.ahead in
           record { is = record { means = z.leads ∙ rw g.means; ahead = omega arith; within = g.within } }
 
-      pub span_read : (next : ℕ) → y ≡ b.At next → SpanPost first s at (p.Is (record { next = next; name = x.len; code = x.size }))
+      pub span_read : (next : ℕ) → y ≡ Ok next → SpanPost first s at (Ok (record { next = next; name = x.len; code = x.size }))
       unfolding and_then function_of
       span_read next f =
           let g = runs_is s (x.code + x.size) x.size y v next f in let z = head_is first s at r w x e in
@@ -148,10 +138,10 @@ module _ (first : Bool) (s : List ℕ) (at : ℕ) (r : Begun) (w : HeadPost firs
             };
           }
 
-pub span_is : (first : Bool) (s : List ℕ) (at : ℕ) (r : Spanned) → SpanPost first s at r → (z : Span) → r ≡ p.Is z → SpanAt first s at z
+pub span_is : (first : Bool) (s : List ℕ) (at : ℕ) (r : Result Span Broken) → SpanPost first s at r → (z : Span) → r ≡ Ok z → SpanAt first s at z
 span_is first s at r w z e = subst (SpannedIs first s at) e w.is
 
-pub span_not : (first : Bool) (s : List ℕ) (at : ℕ) (r : Spanned) → SpanPost first s at r → (k : ℕ) → r ≡ p.Broken k → Bad (read_function first) s at k
+pub span_not : (first : Bool) (s : List ℕ) (at : ℕ) (r : Result Span Broken) → SpanPost first s at r → (k : ℕ) → r ≡ Err (At k) → Bad (read_function first) s at k
 span_not first s at r w k e = subst (SpannedIs first s at) e w.is
 
 -- ---- the others
@@ -177,7 +167,7 @@ unfolding joined codes_within
 others_start n s at l = record { done = []; along = along_start read_function behind_main n false s at l; names = refl; bytes = refl; codes = refl; room = omega arith }
 
 module _ (n : ℕ) (s : List ℕ) (at cur text code : ℕ) (within : Bool) (i : ℕ) (w : Passing n s at cur text code within i) where
-  pub others_end : n ≤ i → OthersPost n s at (o.Fine (record { next = cur; text = text; code = code; within = within }))
+  pub others_end : n ≤ i → OthersPost n s at (Ok (record { next = cur; text = text; code = code; within = within }))
   unfolding others_for
   others_end l = record {
     is = record {
@@ -190,15 +180,12 @@ module _ (n : ℕ) (s : List ℕ) (at cur text code : ℕ) (within : Bool) (i : 
     };
   }
 
-  module _ (l : i < n) (r : Spanned) (q : SpanPost false s cur r) where
-    pub others_bad : (k : ℕ) → r ≡ p.Broken k → OthersPost n s at (o.Broken k)
+  module _ (l : i < n) (r : Result Span Broken) (q : SpanPost false s cur r) where
+    pub others_bad : (b : Broken) → r ≡ Err b → OthersPost n s at (Err b)
     unfolding others_for
-    others_bad k e = record { is = along_bad read_function behind_main n false s at i false cur w.done w.along l k (span_not false s cur r q k e) }
+    others_bad (At k) e = record { is = along_bad read_function behind_main n false s at i false cur w.done w.along l k (span_not false s cur r q k e) }
 
-    module _ (z : Span) (e : r ≡ p.Is z) where
-      pub others_fit : text + z.name + (code + z.code) ≤ length s
-      others_fit = let g = span_is false s cur r q z e in let a = g.room in let c = g.good.within in let y = w.room in omega arith
-
+    module _ (z : Span) (e : r ≡ Ok z) where
       pub others_step : Passing n s at z.next (text + z.name) (code + z.code) (within && leb z.code 65535) (i + 1)
       others_step =
           let g = span_is false s cur r q z e in let f = g.held in let a = g.room in let y = w.room in
@@ -213,10 +200,10 @@ module _ (n : ℕ) (s : List ℕ) (at cur text code : ℕ) (within : Bool) (i : 
             codes = ap (λ (x : Bool). x && leb z.code 65535) w.codes ∙ ap (λ (x : ℕ). codes_within w.done && leb x 65535) g.code ∙ sym (codes_more w.done g.held);
           }
 
-pub rest_is : (n : ℕ) (s : List ℕ) (at : ℕ) (r : Rest) → OthersPost n s at r → (z : Others) → r ≡ o.Fine z → OthersAt n s at z
+pub rest_is : (n : ℕ) (s : List ℕ) (at : ℕ) (r : Result Others Broken) → OthersPost n s at r → (z : Others) → r ≡ Ok z → OthersAt n s at z
 rest_is n s at r w z e = subst (RestIs n s at) e w.is
 
-pub rest_not : (n : ℕ) (s : List ℕ) (at : ℕ) (r : Rest) → OthersPost n s at r → (k : ℕ) → r ≡ o.Broken k → Bad (others_for n) s at k
+pub rest_not : (n : ℕ) (s : List ℕ) (at : ℕ) (r : Result Others Broken) → OthersPost n s at r → (k : ℕ) → r ≡ Err (At k) → Bad (others_for n) s at k
 rest_not n s at r w k e = subst (RestIs n s at) e w.is
 
 -- n readings give n values
@@ -237,23 +224,23 @@ some_test n = ltb 0 n
 abbrev pub all_for : ℕ → List ℕ → Step (List Function)
 all_for n r = series read_function behind_main n true r
 
-module _ (s : List ℕ) (at : ℕ) (pre : at ≤ length s) (x : Num) (q : NumPost s at x) where
-  pub all_none : x ≡ n.Broken → FunctionsPost s at (d.Broken at)
+module _ (s : List ℕ) (at : ℕ) (pre : at ≤ length s) (x : Option (ℕ × ℕ)) (q : NumPost s at x) where
+  pub all_none : x ≡ None → FunctionsPost s at (Err (At at))
   unfolding read_functions
   all_none e = record { is = bad_first all_for (bad_tested some_test (no_number_lem s at x q pre e)) }
 
-  module _ (v first count : ℕ) (e : x ≡ n.Number v first) (w : (count ≡ v) × (count < 4294967296)) where
+  module _ (v first count : ℕ) (e : x ≡ Some (v, first)) (w : (count ≡ v) × (count < 4294967296)) where
     number_at : Good number s at first count
     number_at = counted_at s at x q v first count e w
 
     pub all_first : first ≤ length s
     all_first = number_at.within
 
-    pub all_zero : count ≡ 0 → FunctionsPost s at (d.Broken at)
+    pub all_zero : count ≡ 0 → FunctionsPost s at (Err (At at))
     unfolding read_functions
     all_zero z = record { is = bad_first all_for (bad_test some_test number_at (rw z)) }
 
-    module _ (z : count ≡ 0 → ⊥) (r : Spanned) (u : SpanPost true s first r) where
+    module _ (z : count ≡ 0 → ⊥) (r : Result Span Broken) (u : SpanPost true s first r) where
       one : count ≡ suc (count - 1)
       one = let y : 0 < count = pos_of_ne-zero z in omega arith
 
@@ -265,31 +252,31 @@ module _ (s : List ℕ) (at : ℕ) (pre : at ≤ length s) (x : Num) (q : NumPos
       unfolding series others_for
       split b = ap (λ (k : ℕ). series read_function behind_main k true b) one
 
-      bad_all : (k : ℕ) → Bad (λ b. and_then (read_function true b) (λ f t. and_then (others_for (count - 1) t) (λ l y. got (f ∷ l) y))) s first k → FunctionsPost s at (d.Broken k)
+      bad_all : (k : ℕ) → Bad (λ b. and_then (read_function true b) (λ f t. and_then (others_for (count - 1) t) (λ l y. got (f ∷ l) y))) s first k → FunctionsPost s at (Err (At k))
       unfolding read_functions
       bad_all k g = record { is = bad_second all_for some (record { means = split (drop first s) ∙ g.means; ahead = g.ahead; within = g.within }) }
 
-      pub all_bad : (k : ℕ) → r ≡ p.Broken k → FunctionsPost s at (d.Broken k)
-      all_bad k g = bad_all k (bad_first (λ f t. and_then (others_for (count - 1) t) (λ l y. got (f ∷ l) y)) (span_not true s first r u k g))
+      pub all_bad : (b : Broken) → r ≡ Err b → FunctionsPost s at (Err b)
+      all_bad (At k) g = bad_all k (bad_first (λ f t. and_then (others_for (count - 1) t) (λ l y. got (f ∷ l) y)) (span_not true s first r u k g))
 
-      module _ (m : Span) (g : r ≡ p.Is m) where
+      module _ (m : Span) (g : r ≡ Ok m) where
         pub all_next : m.next ≤ length s
         all_next = (span_is true s first r u m g).good.within
 
-        module _ (y : Rest) (k : OthersPost (count - 1) s m.next y) where
-          pub all_bad_2 : (j : ℕ) → y ≡ o.Broken j → FunctionsPost s at (d.Broken j)
-          all_bad_2 j f =
+        module _ (y : Result Others Broken) (k : OthersPost (count - 1) s m.next y) where
+          pub all_bad_2 : (b : Broken) → y ≡ Err b → FunctionsPost s at (Err b)
+          all_bad_2 (At j) f =
               let mg = span_is true s first r u m g in
               bad_all j (bad_second (λ f t. and_then (others_for (count - 1) t) (λ l y. got (f ∷ l) y)) mg.good
               (bad_first (λ l y. got (mg.held ∷ l) y) (rest_not (count - 1) s m.next y k j f)))
 
-          module _ (c : Others) (f : y ≡ o.Fine c) where
+          module _ (c : Others) (f : y ≡ Ok c) where
             pub all_fit : m.name + c.text ≤ length s
             all_fit =
                 let mg = span_is true s first r u m g in let cg = rest_is (count - 1) s m.next y k c f in
                 let a = mg.room in let b = cg.room in let d = cg.good.within in omega arith
 
-            pub all_read : FunctionsPost s at (d.Fine (record { first = first; next = c.next; count = count; text = m.name + c.text; main = m.code; other = c.code; within = leb m.code 65535 && c.within }))
+            pub all_read : FunctionsPost s at (Ok (record { first = first; next = c.next; count = count; text = m.name + c.text; main = m.code; other = c.code; within = leb m.code 65535 && c.within }))
             unfolding read_functions functions_for and_then joined function_at codes_within others_for
             all_read =
                 let mg = span_is true s first r u m g in let cg = rest_is (count - 1) s m.next y k c f in

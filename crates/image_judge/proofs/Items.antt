@@ -1,10 +1,10 @@
 -- The readers of texts and constants.
+use Rattle.std.specs.Int.{w64, from_le_bytes}
 use mathlib.Core.Path.{◌≡◌, refl, sym, ap, subst, ◌∙◌}
 use mathlib.Core.Bool.{not}
 use mathlib.Core.List.{List, [], ◌∷◌}
 use Prim.Native.Nat.{ℕ, zero, suc, ◌+◌, ◌-◌, ◌*◌, ◌<◌, ◌≤◌, ◌^◌}
 use native.Mathlib.Omega.{arith}
-use native.Mathlib.Nat.{pow-suc, pow-le-pow_right}
 use native.Mathlib.Numerals.{add-one}
 use lib.Dec.{leb, eqb}
 use lib.ListN.{length, take, drop, get_or, length-drop, drop_of_length-le}
@@ -17,16 +17,13 @@ use Rattle.model.specs.Images.{takes, read_text, word_of, read_flag, read_kind, 
 use Rattle.model.specs.Stores.{pack}
 use Rattle.model.specs.Loading.{constant_text, constant_words}
 use Rattle.number.specs.Links.{NumPost}
-use Rattle.number.specs.declared.Num.{Num}
-use Rattle.number.specs.declared.Num.TheVariants as n
 use Rattle.image_judge.specs.Links.{Good, Bad, part_of, TextAt, TextIs, TextPost, constant_of, constant_at, payload_at, EntryAt, ItemIs, ItemPost}
-use Rattle.image_judge.specs.declared.Text.{Text}
-use Rattle.image_judge.specs.declared.Text.TheVariants as t
 use Rattle.image_judge.specs.declared.Entry.{Entry}
-use Rattle.image_judge.specs.declared.Item.{Item}
-use Rattle.image_judge.specs.declared.Item.TheVariants as e
 use Rattle.image_judge.proofs.Near.{number_near}
 use Rattle.image_judge.proofs.Reading.{no_number_lem, a_number, bad_item, good_item, bad_test, bad_tested, good_test, bad_first, bad_second, good_both, good_made}
+use Rattle.std.specs.Prelude.{Err, None, Ok, Option, Result, Some}
+use Rattle.image_judge.specs.declared.Broken.{Broken}
+use Rattle.image_judge.specs.declared.Broken.TheVariants.{At}
 
 -- ---- parts
 
@@ -53,28 +50,28 @@ part_short s at n h l =
 
 -- ---- texts
 
-pub text_is : (s : List ℕ) (at : ℕ) (r : Text) → TextPost s at r → (i n : ℕ) → r ≡ t.At i n → TextAt s at i n
+pub text_is : (s : List ℕ) (at : ℕ) (r : Option (ℕ × ℕ)) → TextPost s at r → (i n : ℕ) → r ≡ Some (i, n) → TextAt s at i n
 text_is s at r p i n e = subst (TextIs s at) e p.is
 
-pub text_not : (s : List ℕ) (at : ℕ) (r : Text) → TextPost s at r → r ≡ t.Broken → Bad read_text s at at
+pub text_not : (s : List ℕ) (at : ℕ) (r : Option (ℕ × ℕ)) → TextPost s at r → r ≡ None → Bad read_text s at at
 text_not s at r p e = subst (TextIs s at) e p.is
 
-pub text_end : (s : List ℕ) (at : ℕ) (r : Text) → TextPost s at r → (i n : ℕ) → r ≡ t.At i n → i + n ≤ length s
+pub text_end : (s : List ℕ) (at : ℕ) (r : Option (ℕ × ℕ)) → TextPost s at r → (i n : ℕ) → r ≡ Some (i, n) → i + n ≤ length s
 text_end s at r p i n e = (text_is s at r p i n e).good.within
 
-module _ (s : List ℕ) (at : ℕ) (pre : at ≤ length s) (r : Num) (p : NumPost s at r) where
-  pub text_none : r ≡ n.Broken → TextPost s at t.Broken
+module _ (s : List ℕ) (at : ℕ) (pre : at ≤ length s) (r : Option (ℕ × ℕ)) (p : NumPost s at r) where
+  pub text_none : r ≡ None → TextPost s at None
   unfolding read_text
   text_none e = record { is = bad_item (bad_first takes (no_number_lem s at r p pre e)) }
 
-  module _ (v start len : ℕ) (e : r ≡ n.Number v start) (w : (len ≡ v) × (len < 4294967296)) where
+  module _ (v start len : ℕ) (e : r ≡ Some (v, start)) (w : (len ≡ v) × (len < 4294967296)) where
     g : Good number s at start len
     g = subst (Good number s at start) (sym w.0) (a_number s at r p v start e)
 
     pub text_starts : start ≤ length s
     text_starts = g.within
 
-    pub text_short : length s - start < len → TextPost s at t.Broken
+    pub text_short : length s - start < len → TextPost s at None
     unfolding read_text item and_then
     text_short l = record {
       is =
@@ -82,7 +79,7 @@ module _ (s : List ℕ) (at : ℕ) (pre : at ≤ length s) (r : Num) (p : NumPos
           record { means = rw (g.means, b.means) (ap bad (length-drop at s)); ahead = omega arith; within = pre };
     }
 
-    pub text_read : len ≤ length s - start → TextPost s at (t.At start len)
+    pub text_read : len ≤ length s - start → TextPost s at (Some (start, len))
     unfolding read_text
     text_read l = record {
       is = record {
@@ -95,54 +92,33 @@ module _ (s : List ℕ) (at : ℕ) (pre : at ≤ length s) (r : Num) (p : NumPos
 
 -- ---- eight bytes
 
-pub record Word (s : List ℕ) (at w i : ℕ) : Type 0 where
-  pub most : i ≤ 8
-  pub means : w ≡ word_of (take (8 - i) (drop (at + i) s))
-  pub small : w < 256 ^ (8 - i)
-
-pub word_starts : (s : List ℕ) (at : ℕ) → Word s at 0 8
+word_from : (s : List ℕ) (i : ℕ) → word_of (drop i s) ≡ get_or s i 0 + 256 * word_of (drop (suc i) s)
 unfolding word_of
-word_starts s at = record { most = omega arith; means = refl; small = let z : 0 < 1 = omega arith in z }
+word_from [] zero = refl
+word_from [] (suc i) = refl
+word_from (x ∷ s) zero = refl
+word_from (x ∷ s) (suc i) = word_from s i
 
-module _ (s : List ℕ) (at w i : ℕ) (h : Word s at w i) where
-  pub word_small : 0 < i → w < 256 ^ 7
-  word_small l =
-      let a = h.small in
-      let b : 256 ^ (8 - i) ≤ 256 ^ 7 = pow-le-pow_right (let z : 0 < 256 = omega arith in z) (let z : 8 - i ≤ 7 = omega arith in z) in
-      omega arith
-
-  pub word_ends : i ≤ 0 → w ≡ word_of (part_of s at 8)
-  unfolding part_of
-  word_ends l = let e : i ≡ 0 = omega arith in h.means ∙ rw e (let z : at + 0 ≡ at = omega arith in rw z)
-
-  pub word_step : 0 < i → at + 8 ≤ length s → (x : ℕ) → x ≡ get_or s (at + (i - 1)) 0 → x < 256 → Word s at (w * 256 + x) (i - 1)
-  unfolding word_of
-  word_step l r x ex lx =
-      let m = h.most in let sm = h.small in
-      let e1 : 8 - (i - 1) ≡ suc (8 - i) = omega arith in
-      let e2 : suc (at + (i - 1)) ≡ at + i = omega arith in
-      let d : drop (at + (i - 1)) s ≡ x ∷ drop (at + i) s = drop-cons s (at + (i - 1)) 0 (omega arith) ∙ rw (← ex, e2) in
-      let mm = h.means in
-      record {
-        most = omega arith;
-        means = rw (e1, d) (let z : w * 256 + x ≡ x + 256 * word_of (take (8 - i) (drop (at + i) s)) = omega arith in z);
-        small = rw (e1, pow-suc 256 (8 - i)) (omega arith);
-      }
+pub word_read : (b : List ℕ) → length b ≡ 8 → from_le_bytes w64 b ≡ word_of b
+unfolding word_of
+word_read b e =
+    let z : word_of (drop 8 b) ≡ 0 = rw (drop_of_length-le b {i = 8} (omega arith)) in
+    omega (arith, word_from b 0, word_from b 1, word_from b 2, word_from b 3, word_from b 4, word_from b 5, word_from b 6, word_from b 7)
 
 -- ---- constants
 
-pub entry_is : (dec : List ℕ → Step Constant) (s : List ℕ) (at : ℕ) (r : Item) → ItemPost dec s at r → (p : Entry) → r ≡ e.Is p → EntryAt dec s at p
+pub entry_is : (dec : List ℕ → Step Constant) (s : List ℕ) (at : ℕ) (r : Result Entry Broken) → ItemPost dec s at r → (p : Entry) → r ≡ Ok p → EntryAt dec s at p
 entry_is dec s at r h p q = subst (ItemIs dec s at) q h.is
 
-pub entry_not : (dec : List ℕ → Step Constant) (s : List ℕ) (at : ℕ) (r : Item) → ItemPost dec s at r → (o : ℕ) → r ≡ e.Broken o → Bad dec s at o
+pub entry_not : (dec : List ℕ → Step Constant) (s : List ℕ) (at : ℕ) (r : Result Entry Broken) → ItemPost dec s at r → (o : ℕ) → r ≡ Err (At o) → Bad dec s at o
 entry_not dec s at r h o q = subst (ItemIs dec s at) q h.is
 
 module _ (s : List ℕ) (at : ℕ) (pre : at ≤ length s) where
-  pub scalar_short : length s - at < 8 → ItemPost (read_body 0) s at (e.Broken at)
+  pub scalar_short : length s - at < 8 → ItemPost (read_body 0) s at (Err (At at))
   unfolding read_body
   scalar_short l = record { is = bad_first (λ l r. got (scalar (word_of l)) r) (part_short s at 8 pre l) }
 
-  pub scalar_read : 8 ≤ length s - at → (w : ℕ) → w ≡ word_of (part_of s at 8) → ItemPost (read_body 0) s at (e.Is (record { kind = 0; word = w; from = at; len = 0; next = at + 8 }))
+  pub scalar_read : 8 ≤ length s - at → (w : ℕ) → w ≡ word_of (part_of s at 8) → ItemPost (read_body 0) s at (Ok (record { kind = 0; word = w; from = at; len = 0; next = at + 8 }))
   unfolding read_body constant_at constant_of constant_text constant_words payload_at part_of
   scalar_read l w q = record {
     is = record {
@@ -155,7 +131,7 @@ module _ (s : List ℕ) (at : ℕ) (pre : at ≤ length s) where
     };
   }
 
-  pub flag_none : length s ≤ at → ItemPost (read_body 1) s at (e.Broken at)
+  pub flag_none : length s ≤ at → ItemPost (read_body 1) s at (Err (At at))
   unfolding read_body read_flag and_then
   flag_none l = record { is = record { means = rw (drop_of_length-le s l) (ap bad (let z : 0 ≡ length s - at = omega arith in z)); ahead = omega arith; within = pre } }
 
@@ -180,7 +156,7 @@ module _ (s : List ℕ) (at : ℕ) (pre : at ≤ length s) where
     flag_words (suc zero) h = refl
     flag_words (suc (suc y)) h = absurd (let w : ⊥ = omega arith in w)
 
-    pub flag_bad : 1 < x → ItemPost (read_body 1) s at (e.Broken at)
+    pub flag_bad : 1 < x → ItemPost (read_body 1) s at (Err (At at))
     unfolding read_body and_then
     flag_bad h = record {
       is = record {
@@ -190,7 +166,7 @@ module _ (s : List ℕ) (at : ℕ) (pre : at ≤ length s) where
       };
     }
 
-    pub flag_read : x ≤ 1 → ItemPost (read_body 1) s at (e.Is (record { kind = 1; word = x; from = at; len = 0; next = at + 1 }))
+    pub flag_read : x ≤ 1 → ItemPost (read_body 1) s at (Ok (record { kind = 1; word = x; from = at; len = 0; next = at + 1 }))
     unfolding read_body and_then constant_at constant_of constant_text constant_words payload_at part_of
     flag_read h = record {
       is = record {
@@ -203,7 +179,7 @@ module _ (s : List ℕ) (at : ℕ) (pre : at ≤ length s) where
       };
     }
 
-  module _ (r : Text) (p : TextPost s at r) (k : ℕ) (two : 1 < k) (four : k < 4) where
+  module _ (r : Option (ℕ × ℕ)) (p : TextPost s at r) (k : ℕ) (two : 1 < k) (four : k < 4) where
     body : (j : ℕ) → 1 < j → j < 4 → (b : List ℕ) → read_body j b ≡ and_then (read_text b) (λ t q. got (constant_of j 0 t) q)
     unfolding read_body constant_of
     body zero x y b = absurd (let w : ⊥ = omega arith in w)
@@ -225,7 +201,7 @@ module _ (s : List ℕ) (at : ℕ) (pre : at ≤ length s) where
     has_words (suc (suc zero)) x y o t = refl
     has_words (suc (suc (suc j))) x y o t = ap (λ (z : ℕ). z ∷ pack o (length t) ∷ []) (let z : 3 ≡ suc (suc (suc j)) = omega arith in z)
 
-    pub letters_none : r ≡ t.Broken → ItemPost (read_body k) s at (e.Broken at)
+    pub letters_none : r ≡ None → ItemPost (read_body k) s at (Err (At at))
     unfolding and_then
     letters_none q = record {
       is =
@@ -233,7 +209,7 @@ module _ (s : List ℕ) (at : ℕ) (pre : at ≤ length s) where
           record { means = body k two four (drop at s) ∙ rw b.means; ahead = b.ahead; within = b.within };
     }
 
-    pub letters_read : (i n : ℕ) → r ≡ t.At i n → ItemPost (read_body k) s at (e.Is (record { kind = k; word = 0; from = i; len = n; next = i + n }))
+    pub letters_read : (i n : ℕ) → r ≡ Some (i, n) → ItemPost (read_body k) s at (Ok (record { kind = k; word = 0; from = i; len = n; next = i + n }))
     unfolding and_then constant_at payload_at
     letters_read i n q =
         let g = text_is s at r p i n q in let a = g.ahead in
@@ -249,28 +225,28 @@ module _ (s : List ℕ) (at : ℕ) (pre : at ≤ length s) where
         }
 
   -- a kind, and a body
-  module _ (r : Num) (p : NumPost s at r) where
-    pub constant_none : r ≡ n.Broken → ItemPost (read_constant tt) s at (e.Broken at)
+  module _ (r : Option (ℕ × ℕ)) (p : NumPost s at r) where
+    pub constant_none : r ≡ None → ItemPost (read_constant tt) s at (Err (At at))
     unfolding read_constant read_kind
     constant_none q = record { is = bad_first read_body (bad_tested (λ k. leb k 3) (no_number_lem s at r p pre q)) }
 
-    module _ (k next : ℕ) (q : r ≡ n.Number k next) where
+    module _ (k next : ℕ) (q : r ≡ Some (k, next)) where
       pub constant_next : next ≤ length s
       constant_next = (a_number s at r p k next q).within
 
-      pub constant_kind : 3 < k → ItemPost (read_constant tt) s at (e.Broken at)
+      pub constant_kind : 3 < k → ItemPost (read_constant tt) s at (Err (At at))
       unfolding read_constant read_kind
       constant_kind h = record { is = bad_first read_body (bad_test (λ k. leb k 3) (a_number s at r p k next q) (lt-leb k 3 h)) }
 
-      pub constant_read : k ≤ 3 → (j : ℕ) → k ≡ j → (o : Item) → ItemPost (read_body j) s next o → ItemPost (read_constant tt) s at o
+      pub constant_read : k ≤ 3 → (j : ℕ) → k ≡ j → (o : Result Entry Broken) → ItemPost (read_body j) s next o → ItemPost (read_constant tt) s at o
       unfolding read_constant read_kind
       constant_read h j ej o w = record { is = by o (subst (λ (z : ℕ). ItemIs (read_body z) s next o) (sym ej) w.is) }
         where
           first : Good (λ b. item b (checked (λ k. leb k 3) (number b))) s at next k
           first = good_test (λ k. leb k 3) (a_number s at r p k next q) (le-leb k 3 h)
 
-          by : (o : Item) → ItemIs (read_body k) s next o → ItemIs (read_constant tt) s at o
-          by (e.Is y) g = let a = first.ahead in let b = g.room in record {
+          by : (o : Result Entry Broken) → ItemIs (read_body k) s next o → ItemIs (read_constant tt) s at o
+          by (Ok y) g = let a = first.ahead in let b = g.room in record {
             good = good_both read_body first g.good;
             text = g.text;
             words = g.words;
@@ -278,7 +254,7 @@ module _ (s : List ℕ) (at : ℕ) (pre : at ≤ length s) where
             small = g.small;
             room = omega arith;
           }
-          by (e.Broken y) g = bad_second read_body first g
+          by (Err (At y)) g = bad_second read_body first g
 
 -- a kind that is neither 0 nor 1
 pub two_left : (k : ℕ) → (k ≡ 0 → ⊥) → (k ≡ 1 → ⊥) → k ≤ 3 → (1 < k) × (k < 4)

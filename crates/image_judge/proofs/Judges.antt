@@ -10,26 +10,24 @@ use Rattle.model.specs.Images.{joined, read_constants, read_structs, read_functi
 use Rattle.model.specs.Loading.{constant_text, constant_texts, struct_texts, texts_of, main_of, others_of}
 use Rattle.image_judge.specs.Links.{Good, Bad, SectionAt, CheckedIs, CheckPost, functions_for, FunctionsAt, CodedIs, FunctionsPost, JudgePost}
 use Rattle.image_judge.specs.declared.Section.{Section}
-use Rattle.image_judge.specs.declared.Checked.{Checked}
-use Rattle.image_judge.specs.declared.Checked.TheVariants as c
 use Rattle.image_judge.specs.declared.Ended.{Ended}
-use Rattle.image_judge.specs.declared.Coded.{Coded}
-use Rattle.image_judge.specs.declared.Coded.TheVariants as d
-use Rattle.image_judge.specs.declared.Judgement.TheVariants as j
 use Rattle.image_judge.proofs.Reading.{bad_first, bad_second, good_both}
+use Rattle.std.specs.Prelude.{Err, Ok, Result}
+use Rattle.image_judge.specs.declared.Broken.{Broken}
+use Rattle.image_judge.specs.declared.Broken.TheVariants.{At}
 
-pub section_is : {A : Type 0} {dec : List ℕ → Step (List A)} {text_of : A → List ℕ} (s : List ℕ) (at : ℕ) (r : Checked) → CheckPost dec text_of s at r
-    → (z : Section) → r ≡ c.Fine z → SectionAt dec text_of s at z
+pub section_is : {A : Type 0} {dec : List ℕ → Step (List A)} {text_of : A → List ℕ} (s : List ℕ) (at : ℕ) (r : Result Section Broken) → CheckPost dec text_of s at r
+    → (z : Section) → r ≡ Ok z → SectionAt dec text_of s at z
 section_is {A} {dec} {text_of} s at r h z e = subst (CheckedIs dec text_of s at) e h.is
 
-section_not : {A : Type 0} {dec : List ℕ → Step (List A)} {text_of : A → List ℕ} (s : List ℕ) (at : ℕ) (r : Checked) → CheckPost dec text_of s at r
-    → (k : ℕ) → r ≡ c.Broken k → Bad dec s at k
+section_not : {A : Type 0} {dec : List ℕ → Step (List A)} {text_of : A → List ℕ} (s : List ℕ) (at : ℕ) (r : Result Section Broken) → CheckPost dec text_of s at r
+    → (k : ℕ) → r ≡ Err (At k) → Bad dec s at k
 section_not {A} {dec} {text_of} s at r h k e = subst (CheckedIs dec text_of s at) e h.is
 
-pub functions_is : (s : List ℕ) (at : ℕ) (r : Coded) → FunctionsPost s at r → (z : Ended) → r ≡ d.Fine z → FunctionsAt s at z
+pub functions_is : (s : List ℕ) (at : ℕ) (r : Result Ended Broken) → FunctionsPost s at r → (z : Ended) → r ≡ Ok z → FunctionsAt s at z
 functions_is s at r h z e = subst (CodedIs s at) e h.is
 
-functions_not : (s : List ℕ) (at : ℕ) (r : Coded) → FunctionsPost s at r → (k : ℕ) → r ≡ d.Broken k → Bad read_functions s at k
+functions_not : (s : List ℕ) (at : ℕ) (r : Result Ended Broken) → FunctionsPost s at r → (k : ℕ) → r ≡ Err (At k) → Bad read_functions s at k
 functions_not s at r h k e = subst (CodedIs s at) e h.is
 
 -- what follows the constants, the struct names, the functions
@@ -48,7 +46,7 @@ end_more p [] h = absurd (let w : ⊥ = omega arith in w)
 end_more p (x ∷ r) h = refl
 
 module _ (s : List ℕ) where
-  judged_bad : (k : ℕ) → Bad parse s 0 k → JudgePost s (j.Broken k)
+  judged_bad : (k : ℕ) → Bad parse s 0 k → JudgePost s (Err (At k))
   unfolding judge judged_step
   judged_bad k h = let l = h.within in record { is = rw h.means (ap broken (let z : length s - (length s - k) ≡ k = omega arith in z)) }
 
@@ -56,41 +54,41 @@ module _ (s : List ℕ) where
   unfolding judge judged_step
   judged_fine p next h = rw h.means
 
-  module _ (x : Checked) (hx : CheckPost read_constants constant_text s 0 x) where
-    pub judge_1 : (k : ℕ) → x ≡ c.Broken k → JudgePost s (j.Broken k)
+  module _ (x : Result Section Broken) (hx : CheckPost read_constants constant_text s 0 x) where
+    pub judge_1 : (b : Broken) → x ≡ Err b → JudgePost s (Err b)
     unfolding parse
-    judge_1 k e = judged_bad k (bad_first after_constants (section_not s 0 x hx k e))
+    judge_1 (At k) e = judged_bad k (bad_first after_constants (section_not s 0 x hx k e))
 
-    module _ (cs : Section) (ex : x ≡ c.Fine cs) where
+    module _ (cs : Section) (ex : x ≡ Ok cs) where
       cg : SectionAt read_constants constant_text s 0 cs
       cg = section_is s 0 x hx cs ex
 
       pub structs_at : cs.next ≤ length s
       structs_at = cg.good.within
 
-      module _ (y : Checked) (hy : CheckPost read_structs (λ t. t) s cs.next y) where
-        pub judge_2 : (k : ℕ) → y ≡ c.Broken k → JudgePost s (j.Broken k)
+      module _ (y : Result Section Broken) (hy : CheckPost read_structs (λ t. t) s cs.next y) where
+        pub judge_2 : (b : Broken) → y ≡ Err b → JudgePost s (Err b)
         unfolding parse
-        judge_2 k e = judged_bad k (bad_second after_constants cg.good (bad_first (after_structs cg.held) (section_not s cs.next y hy k e)))
+        judge_2 (At k) e = judged_bad k (bad_second after_constants cg.good (bad_first (after_structs cg.held) (section_not s cs.next y hy k e)))
 
-        module _ (ss : Section) (ey : y ≡ c.Fine ss) where
+        module _ (ss : Section) (ey : y ≡ Ok ss) where
           sg : SectionAt read_structs (λ t. t) s cs.next ss
           sg = section_is s cs.next y hy ss ey
 
           pub functions_at : ss.next ≤ length s
           functions_at = sg.good.within
 
-          module _ (z : Coded) (hz : FunctionsPost s ss.next z) where
-            pub judge_3 : (k : ℕ) → z ≡ d.Broken k → JudgePost s (j.Broken k)
+          module _ (z : Result Ended Broken) (hz : FunctionsPost s ss.next z) where
+            pub judge_3 : (b : Broken) → z ≡ Err b → JudgePost s (Err b)
             unfolding parse
-            judge_3 k e = judged_bad k (bad_second after_constants cg.good (bad_second (after_structs cg.held) sg.good
+            judge_3 (At k) e = judged_bad k (bad_second after_constants cg.good (bad_second (after_structs cg.held) sg.good
                 (bad_first (after_functions cg.held sg.held) (functions_not s ss.next z hz k e))))
 
-            module _ (fs : Ended) (ez : z ≡ d.Fine fs) where
+            module _ (fs : Ended) (ez : z ≡ Ok fs) where
               fg : FunctionsAt s ss.next fs
               fg = functions_is s ss.next z hz fs ez
 
-              pub judge_4 : fs.next < length s → JudgePost s (j.Broken fs.next)
+              pub judge_4 : fs.next < length s → JudgePost s (Err (At fs.next))
               unfolding parse
               judge_4 l =
                   let e = length-drop fs.next s in
@@ -101,7 +99,7 @@ module _ (s : List ℕ) where
               pub text_fits : cs.text + ss.text + fs.text ≤ length s
               text_fits = let a = cg.room in let b = sg.room in let f = fg.room in let w = fg.good.within in omega arith
 
-              pub judge_5 : length s ≤ fs.next → JudgePost s (j.Fine (record {
+              pub judge_5 : length s ≤ fs.next → JudgePost s (Ok (record {
                 constants = cs.count;
                 structs = ss.count;
                 functions = fs.count;

@@ -1,5 +1,5 @@
 -- The judging of a section: a count, and each with its text.
-use Rattle.std.specs.Prelude.{if◌then◌else◌}
+use Rattle.std.specs.Prelude.{if◌then◌else◌, Err, None, Ok, Option, Result, Some}
 use mathlib.Core.Path.{◌≡◌, refl, sym, ap, subst, ◌∙◌}
 use mathlib.Core.Bool.{Bool, true, false, not}
 use mathlib.Core.List.{List, [], ◌∷◌, ◌++◌}
@@ -15,22 +15,17 @@ use Rattle.model.specs.Programs.{Constant, among}
 use Rattle.model.specs.Images.{joined, series, read_constant, always, read_constants, read_name, snoc, read_structs}
 use Rattle.model.specs.Loading.{constant_text}
 use Rattle.number.specs.Links.{NumPost}
-use Rattle.number.specs.declared.Num.{Num}
-use Rattle.number.specs.declared.Num.TheVariants as n
 use Rattle.layout.proofs.Bools.{apart, either_way}
 use Rattle.laws_programs.proofs.Searching.{among_false}
 use Rattle.image_judge.specs.Links.{Good, Bad, part_of, TextAt, TextPost, constant_at, ItemPost, SectionAt, CheckPost}
 use Rattle.image_judge.specs.Repeats.{place_of, name_of, names_to, RowsPost, Again, RepeatPost}
-use Rattle.image_judge.specs.declared.Text.{Text}
-use Rattle.image_judge.specs.declared.Text.TheVariants as t
 use Rattle.image_judge.specs.declared.Entry.{Entry}
-use Rattle.image_judge.specs.declared.Item.{Item}
-use Rattle.image_judge.specs.declared.Item.TheVariants as e
-use Rattle.image_judge.specs.declared.Checked.TheVariants as c
 use Rattle.number.proofs.Codes.{never}
 use Rattle.image_judge.proofs.Reading.{Along, along_start, along_end, along_bad, along_step, joined_length, bad_first, bad_second, good_both, bad_test, bad_tested, good_test, no_number_lem, a_number}
 use Rattle.image_judge.proofs.Items.{part_length, text_is, text_not, entry_is, entry_not}
 use Rattle.image_judge.proofs.Repeating.{text_there, behind_there}
+use Rattle.image_judge.specs.declared.Broken.{Broken}
+use Rattle.image_judge.specs.declared.Broken.TheVariants.{At}
 
 -- ---- any section
 
@@ -54,9 +49,6 @@ module _ {S A : Type 0} (dec : S → List ℕ → Step A) (next : S → A → S)
       sized = let z = h.sized in let y = joined_length text_of done a in omega arith;
     }
 
-    pub pass_fits : (to m : ℕ) → cur + m ≤ to → to ≤ length s → text + m ≤ length s
-    pass_fits to m f g = let z = h.room in omega arith
-
     module _ (before : ℕ) (count : Good number s before at n) where
       pub pass_end : n ≤ i → SectionAt (λ b. and_then (number b) (λ k r. series dec next k (st []) r)) text_of s before (record { next = cur; count = n; text = text })
       pass_end l = record {
@@ -71,7 +63,7 @@ module _ {S A : Type 0} (dec : S → List ℕ → Step A) (next : S → A → S)
       pass_bad l o g = bad_second (λ k r. series dec next k (st []) r) count (along_bad dec next n (st []) s at i (st done) cur done h.along l o g)
 
 -- the count
-pub counted_at : (s : List ℕ) (at : ℕ) (r : Num) → NumPost s at r → (v first k : ℕ) → r ≡ n.Number v first → (k ≡ v) × (k < 4294967296) → Good number s at first k
+pub counted_at : (s : List ℕ) (at : ℕ) (r : Option (ℕ × ℕ)) → NumPost s at r → (v first k : ℕ) → r ≡ Some (v, first) → (k ≡ v) × (k < 4294967296) → Good number s at first k
 counted_at s at r p v first k e w = subst (Good number s at first) (sym w.0) (a_number s at r p v first e)
 
 -- ---- constants
@@ -86,24 +78,21 @@ pub record Constants (s : List ℕ) (at n cur text i : ℕ) : Type 0 where
 pub constants_start : (s : List ℕ) (at n : ℕ) → at ≤ length s → Constants s at n at 0 0
 constants_start s at n h = record { done = []; pass = pass_start read_constant always (λ l. tt) constant_text s at n h }
 
-pub constants_none : (s : List ℕ) (at : ℕ) → at ≤ length s → (r : Num) → NumPost s at r → r ≡ n.Broken → CheckPost read_constants constant_text s at (c.Broken at)
+pub constants_none : (s : List ℕ) (at : ℕ) → at ≤ length s → (r : Option (ℕ × ℕ)) → NumPost s at r → r ≡ None → CheckPost read_constants constant_text s at (Err (At at))
 unfolding read_constants
 constants_none s at h r p e = record { is = bad_first (λ k r. series read_constant always k tt r) (no_number_lem s at r p h e) }
 
 module _ (s : List ℕ) (before at n : ℕ) (count : Good number s before at n) (cur text i : ℕ) (h : Constants s at n cur text i) where
-  pub constants_end : n ≤ i → CheckPost read_constants constant_text s before (c.Fine (record { next = cur; count = n; text = text }))
+  pub constants_end : n ≤ i → CheckPost read_constants constant_text s before (Ok (record { next = cur; count = n; text = text }))
   unfolding read_constants
   constants_end l = record { is = pass_end read_constant always (λ l. tt) constant_text s at n cur text i h.done h.pass before count l }
 
-  module _ (l : i < n) (r : Item) (p : ItemPost (read_constant tt) s cur r) where
-    pub constants_bad : (o : ℕ) → r ≡ e.Broken o → CheckPost read_constants constant_text s before (c.Broken o)
+  module _ (l : i < n) (r : Result Entry Broken) (p : ItemPost (read_constant tt) s cur r) where
+    pub constants_bad : (b : Broken) → r ≡ Err b → CheckPost read_constants constant_text s before (Err b)
     unfolding read_constants
-    constants_bad o q = record { is = pass_bad read_constant always (λ l. tt) constant_text s at n cur text i h.done h.pass before count l o (entry_not _ s cur r p o q) }
+    constants_bad (At o) q = record { is = pass_bad read_constant always (λ l. tt) constant_text s at n cur text i h.done h.pass before count l o (entry_not _ s cur r p o q) }
 
-    module _ (y : Entry) (q : r ≡ e.Is y) where
-      pub constants_fit : text + y.len ≤ length s
-      constants_fit = let g = entry_is _ s cur r p y q in pass_fits read_constant always (λ l. tt) constant_text s at n cur text i h.done h.pass y.next y.len g.room g.good.within
-
+    module _ (y : Entry) (q : r ≡ Ok y) where
       pub constants_step : Constants s at n y.next (text + y.len) (i + 1)
       constants_step =
           let g = entry_is _ s cur r p y q in
@@ -163,31 +152,28 @@ pub names_start : (s : List ℕ) (at n repeat : ℕ) → at ≤ length s → Nam
 unfolding names_to place_of
 names_start s at n repeat h = record { done = []; pass = pass_start read_name snoc (λ l. l) (λ t. t) s at n h; listed = refl; here = refl; least = omega arith }
 
-pub names_none : (s : List ℕ) (at : ℕ) → at ≤ length s → (r : Num) → NumPost s at r → r ≡ n.Broken → CheckPost read_structs (λ t. t) s at (c.Broken at)
+pub names_none : (s : List ℕ) (at : ℕ) → at ≤ length s → (r : Option (ℕ × ℕ)) → NumPost s at r → r ≡ None → CheckPost read_structs (λ t. t) s at (Err (At at))
 unfolding read_structs
 names_none s at h r p e = record { is = bad_first (λ k r. series read_name snoc k [] r) (no_number_lem s at r p h e) }
 
 module _ (s : List ℕ) (before at n : ℕ) (count : Good number s before at n) (whole repeat : ℕ) (rows : RowsPost s at n whole) (again : RepeatPost s at whole repeat)
     (cur text i : ℕ) (h : Names s at n repeat cur text i) where
-  pub names_end : n ≤ i → CheckPost read_structs (λ t. t) s before (c.Fine (record { next = cur; count = n; text = text }))
+  pub names_end : n ≤ i → CheckPost read_structs (λ t. t) s before (Ok (record { next = cur; count = n; text = text }))
   unfolding read_structs
   names_end l = record { is = pass_end read_name snoc (λ l. l) (λ t. t) s at n cur text i h.done h.pass before count l }
 
-  module _ (l : i < n) (r : Text) (p : TextPost s cur r) where
-    refuse : Bad (read_name h.done) s cur cur → CheckPost read_structs (λ t. t) s before (c.Broken cur)
+  module _ (l : i < n) (r : Option (ℕ × ℕ)) (p : TextPost s cur r) where
+    refuse : Bad (read_name h.done) s cur cur → CheckPost read_structs (λ t. t) s before (Err (At cur))
     unfolding read_structs
     refuse b = record { is = pass_bad read_name snoc (λ l. l) (λ t. t) s at n cur text i h.done h.pass before count l cur b }
 
-    pub names_bad : r ≡ t.Broken → CheckPost read_structs (λ t. t) s before (c.Broken cur)
+    pub names_bad : r ≡ None → CheckPost read_structs (λ t. t) s before (Err (At cur))
     unfolding read_name
     names_bad e = refuse (bad_tested (λ t. not (among t h.done)) (text_not s cur r p e))
 
-    module _ (k m : ℕ) (e : r ≡ t.At k m) where
+    module _ (k m : ℕ) (e : r ≡ Some (k, m)) where
       g : TextAt s cur k m
       g = text_is s cur r p k m e
-
-      pub names_in : k + m ≤ length s
-      names_in = g.good.within
 
       this : part_of s k m ≡ name_of s at i
       unfolding name_of
@@ -206,12 +192,9 @@ module _ (s : List ℕ) (before at n : ℕ) (count : Good number s before at n) 
           let f : i < repeat = lt_of_le_of_ne h.least d in
           rw (this, h.listed) (none_listed s at i (name_of s at i) (λ j q. again.differ i j q f))
 
-      pub names_seen : i ≡ repeat → CheckPost read_structs (λ t. t) s before (c.Broken cur)
+      pub names_seen : i ≡ repeat → CheckPost read_structs (λ t. t) s before (Err (At cur))
       unfolding read_name
       names_seen z = refuse (bad_test (λ t. not (among t h.done)) g.good (ap not (is_again z)))
-
-      pub names_fit : text + m ≤ length s
-      names_fit = let a = g.ahead in pass_fits read_name snoc (λ l. l) (λ t. t) s at n cur text i h.done h.pass (k + m) m (omega arith) g.good.within
 
       pub names_step : (i ≡ repeat → ⊥) → Names s at n repeat (k + m) (text + m) (i + 1)
       unfolding read_name names_to place_of

@@ -8,12 +8,11 @@ use lib.ListN.{length, drop, length-drop, length-append}
 use Rattle.model.specs.Numbers.{Step, got, bad, and_then, item, checked, number}
 use Rattle.model.specs.Images.{joined, series}
 use Rattle.number.specs.Links.{NumPost, num_of, Ahead}
-use Rattle.number.specs.declared.Num.{Num}
-use Rattle.number.specs.declared.Num.TheVariants as n
 use Rattle.image_judge.specs.Links.{Good, Bad}
 use Rattle.number.proofs.Codes.{never}
 use Rattle.laws_images.proofs.Codecs.{got_value}
 use Rattle.laws_images.proofs.Written.{joined_more}
+use Rattle.std.specs.Prelude.{None, Option, Some}
 
 -- ---- a reading by itself
 
@@ -61,13 +60,13 @@ module _ {A B : Type 0} {dec : List ℕ → Step A} (k : A → List ℕ → Step
 
 -- ---- a number
 
-module _ (s : List ℕ) (at : ℕ) (r : Num) (p : NumPost s at r) where
-  pub no_number_lem : at ≤ length s → r ≡ n.Broken → Bad number s at at
+module _ (s : List ℕ) (at : ℕ) (r : Option (ℕ × ℕ)) (p : NumPost s at r) where
+  pub no_number_lem : at ≤ length s → r ≡ None → Bad number s at at
   no_number_lem h e = record { means = p.means ∙ ap (num_of s at) e; ahead = omega arith; within = h }
 
-  pub a_number : (v next : ℕ) → r ≡ n.Number v next → Good number s at next v
+  pub a_number : (v next : ℕ) → r ≡ Some (v, next) → Good number s at next v
   a_number v next e =
-      let a : Ahead (2 ^ 32) s at (n.Number v next) = subst (Ahead (2 ^ 32) s at) e p.ahead in
+      let a : Ahead (2 ^ 32) s at (Some (v, next)) = subst (Ahead (2 ^ 32) s at) e p.ahead in
       let a0 = a.0 in record { means = p.means ∙ ap (num_of s at) e; ahead = omega arith; within = a.1 }
 
 -- ---- a series

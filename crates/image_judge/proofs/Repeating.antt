@@ -4,7 +4,7 @@ use mathlib.Core.Bool.{Bool, true, false, ◌&&◌}
 use mathlib.Core.List.{List}
 use Prim.Native.Nat.{ℕ, zero, suc, ◌+◌, ◌-◌, ◌*◌, ◌/◌, ◌≤◌, ◌<◌, ◌^◌, min}
 use native.Mathlib.Omega.{arith}
-use native.Mathlib.Nat.{min-le_left, min-le_right, min-eq_left, min-eq_right}
+use native.Mathlib.Nat.{min-le_left, min-le_right}
 use native.Mathlib.Numerals.{lt_of_le_of_ne}
 use lib.Dec.{eqb, ltb}
 use lib.ListN.{length, take, drop, length-drop}
@@ -12,7 +12,6 @@ use lib.Seq.{take_all, drop-drop}
 use borrow.Author.Tests.{ltb-true, ltb-false, eqb-true, eqb-false}
 use Rattle.model.specs.Values.{text_at}
 use Rattle.model.specs.Equality.{same_bytes}
-use Rattle.model.specs.Images.{read_text}
 use Rattle.model.specs.Stores.{pack, part, order_word}
 use Rattle.model.specs.Orders.{name_in_order}
 use Rattle.laws_names.specs.Sorted.{Edge, struct_put}
@@ -21,14 +20,12 @@ use Rattle.laws_names.proofs.Putting.{put_keeps_length, new_word, old_word}
 use Rattle.laws_names.proofs.Standing.{names_differ, none_of_them, stays_in_order}
 use Rattle.layout.proofs.Bools.{apart, either_way}
 use Rattle.layout.proofs.Parts.{start_pack, size_pack}
-use Rattle.number.proofs.Codes.{never}
-use Rattle.image_judge.specs.Links.{Bad, part_of, TextAt, TextPost}
-use Rattle.image_judge.specs.Repeats.{text_from, after_text, place_of, name_of, Stands, Rows, RowsPost, Again, RepeatPost, Holds, TakenPost, LookPost, ChunkPost}
-use Rattle.image_judge.specs.declared.Text.{Text}
-use Rattle.image_judge.specs.declared.Text.TheVariants as t
+use Rattle.image_judge.specs.Links.{part_of, TextAt, TextPost}
+use Rattle.image_judge.specs.Repeats.{text_from, after_text, place_of, name_of, Stands, Rows, Again, RepeatPost, Holds, TakenPost, LookPost, ChunkPost}
 use Rattle.image_judge.specs.declared.repeats.Taken.{Taken}
 use Rattle.image_judge.specs.declared.repeats.Chunk.{Chunk}
-use Rattle.image_judge.proofs.Items.{part_slice, text_is, text_not}
+use Rattle.image_judge.proofs.Items.{part_slice, text_is}
+use Rattle.std.specs.Prelude.{Option, Some}
 
 -- ---- a text and the place behind it
 
@@ -43,10 +40,6 @@ module _ (s : List ℕ) (p i n : ℕ) (g : TextAt s p i n) where
 
   pub stands_there : Stands s p
   stands_there = record { good = rw (text_there, behind_there) g.good }
-
--- a text that stands is not broken
-stands_never : (s : List ℕ) (p : ℕ) → Stands s p → Bad read_text s p p → ⊥
-stands_never s p h b = never (sym b.means ∙ h.good.means)
 
 -- ---- places and names, from a later text on
 
@@ -88,17 +81,8 @@ module _ (s : List ℕ) (at n next i : ℕ) (h : Rowing s at n next i) where
   pub rowing_within : next ≤ length s
   rowing_within = rw h.here (place_within s at i h.rows i (omega arith))
 
-  pub rowing_end : n ≤ i → RowsPost s at n i
-  rowing_end l = record { most = h.most; rows = h.rows; ends = λ k. absurd (let y : ⊥ = omega arith in y) }
-
-  module _ (r : Text) (p : TextPost s next r) where
-    pub rowing_broken : r ≡ t.Broken → RowsPost s at n i
-    rowing_broken e = record { most = h.most; rows = h.rows; ends = λ k. rw h.here at (text_not s next r p e) }
-
-    module _ (l : i < n) (k m : ℕ) (e : r ≡ t.At k m) where
-      pub rowing_in : k + m ≤ length s
-      rowing_in = (text_is s next r p k m e).good.within
-
+  module _ (r : Option (ℕ × ℕ)) (p : TextPost s next r) where
+    module _ (l : i < n) (k m : ℕ) (e : r ≡ Some (k, m)) where
       pub rowing_next : Rowing s at n (k + m) (i + 1)
       unfolding place_of
       rowing_next =
@@ -136,16 +120,10 @@ module _ (s : List ℕ) (from n : ℕ) (rows : Rows s from n) where
   }
 
   -- text i is held against the chunk of the first k
-  module _ (k : ℕ) (ss : List ℕ) (held : Holds s from k ss) (next i : ℕ) (here : next ≡ place_of s from i) (few : i < n) (r : Text) (p : TextPost s next r) where
-    pub held_never : r ≡ t.Broken → ⊥
-    held_never e = stands_never s next (rw here (rows.each i few)) (text_not s next r p e)
-
-    module _ (y m : ℕ) (e : r ≡ t.At y m) where
+  module _ (k : ℕ) (ss : List ℕ) (held : Holds s from k ss) (next i : ℕ) (here : next ≡ place_of s from i) (few : i < n) (r : Option (ℕ × ℕ)) (p : TextPost s next r) where
+    module _ (y m : ℕ) (e : r ≡ Some (y, m)) where
       text : TextAt s next y m
       text = text_is s next r p y m e
-
-      pub held_in_lem : y + m ≤ length s
-      held_in_lem = text.good.within
 
       pub held_behind : y + m ≡ place_of s from (suc i)
       unfolding place_of
@@ -217,9 +195,6 @@ module _ (s : List ℕ) (from n : ℕ) (rows : Rows s from n) (ss₀ : List ℕ)
   taking_start = record { most = omega arith; here = refl; same = refl; holds = none_held s from n rows ss₀ }
 
   module _ (ss : List ℕ) (next i : ℕ) (h : Taking s from n ss₀ ss next i) where
-    pub taking_within : next ≤ length s
-    taking_within = rw h.here (place_within s from n rows i h.most)
-
     stops : (z : Taken) → z.count ≡ i → z.next ≡ next → (0 < n → 2 ≤ length ss₀ → 0 < i) → (z.again ≡ true → (i < n) × Again s from i) → TakenPost s from n z ss₀ ss
     stops z ec en some again = record {
       holds = rw ec h.holds;
@@ -229,37 +204,17 @@ module _ (s : List ℕ) (from n : ℕ) (rows : Rows s from n) (ss₀ : List ℕ)
       again = λ a. rw ec (again a);
     }
 
-    -- all that there is room for
-    pub taking_end : room ≤ i → TakenPost s from n (record { count = i; next = next; again = false }) ss₀ ss
-    taking_end l = stops _ refl refl (λ a b. by_least a b) (λ a. apart false a refl)
-      where
-        by_least : 0 < n → 2 ≤ length ss₀ → 0 < i
-        by_least a b = either_way (ltb n (length ss₀ / 2))
-            (λ x.
-            let u : n < length ss₀ / 2 = ltb-true n (length ss₀ / 2) x in let q : n ≤ length ss₀ / 2 = omega arith in
-            let v : min n (length ss₀ / 2) ≡ n = min-eq_left q in omega arith)
-            (λ x. let q : length ss₀ / 2 ≤ n = ltb-false n (length ss₀ / 2) x in let v : min n (length ss₀ / 2) ≡ length ss₀ / 2 = min-eq_right q in omega arith)
-
-    module _ (l : i < room) (r : Text) (p : TextPost s next r) where
+    module _ (l : i < room) (r : Option (ℕ × ℕ)) (p : TextPost s next r) where
       few : i < n
       few = let a = in_room in omega arith
 
-      pub taking_never : r ≡ t.Broken → ⊥
-      taking_never = held_never s from n rows i ss h.holds next i h.here few r p
-
-      module _ (y m : ℕ) (e : r ≡ t.At y m) where
-        pub taking_in : y + m ≤ length s
-        taking_in = held_in_lem s from n rows i ss h.holds next i h.here few r p y m e
-
+      module _ (y m : ℕ) (e : r ≡ Some (y, m)) where
         -- a text stands behind the chunk's start, and a first one near it
         pub taking_ahead : from ≤ y
         taking_ahead =
             let a = (text_is s next r p y m e).ahead in
             let b : from ≤ next = rw h.here (rows_ahead s from n rows i h.most) in
             omega arith
-
-        pub taking_small : m < 2 ^ 32
-        taking_small = (text_is s next r p y m e).small
 
         pub taking_far : 0xFFFF_FFFF < y - from → TakenPost s from n (record { count = i; next = next; again = false }) ss₀ ss
         taking_far f = stops _ refl refl (λ a b. not_first i (λ z. let a = (text_is s next r p y m e).near in let b : next ≡ from = h.here ∙ first_place s from i z in omega arith))
@@ -295,24 +250,9 @@ pub record Looking (s : List ℕ) (from n k next i : ℕ) : Type 0 where
   pub differ : (d j : ℕ) → j < k → k ≤ d → d < i → same_bytes (name_of s from d) (name_of s from j) ≡ false
 
 module _ (s : List ℕ) (from n k at : ℕ) (ss : List ℕ) (pre : Rows s from n × ((k ≤ n) × ((at ≡ place_of s from k) × Holds s from k ss))) where
-  pub looking_start : Looking s from n k at k
-  looking_start = record { least = omega arith; most = pre.1.0; here = pre.1.1.0; differ = λ d j a b c. absurd (let y : ⊥ = omega arith in y) }
-
   module _ (next i : ℕ) (h : Looking s from n k next i) where
-    pub looking_within : next ≤ length s
-    looking_within = rw h.here (place_within s from n pre.0 i h.most)
-
-    pub looking_end : n ≤ i → LookPost s from n k i
-    looking_end l = record { least = h.least; most = h.most; differ = h.differ; again = λ q. absurd (let y : ⊥ = omega arith in y) }
-
-    module _ (l : i < n) (r : Text) (p : TextPost s next r) where
-      pub looking_never : r ≡ t.Broken → ⊥
-      looking_never = held_never s from n pre.0 k ss pre.1.1.1 next i h.here l r p
-
-      module _ (y m : ℕ) (e : r ≡ t.At y m) where
-        pub looking_in : y + m ≤ length s
-        looking_in = held_in_lem s from n pre.0 k ss pre.1.1.1 next i h.here l r p y m e
-
+    module _ (l : i < n) (r : Option (ℕ × ℕ)) (p : TextPost s next r) where
+      module _ (y m : ℕ) (e : r ≡ Some (y, m)) where
         module _ (place : ℕ) (ed : Edge k (name_in_order ss (take (length s - from) (drop from s))) (take (y + m - y) (drop y s)) place)
             (b : Bool) (eb : b ≡ (ltb place k && same_bytes (take (y + m - y) (drop y s)) (name_in_order ss (take (length s - from) (drop from s)) place))) where
           pub looking_again : b ≡ true → LookPost s from n k i
@@ -353,9 +293,6 @@ module _ (s : List ℕ) (from n : ℕ) (rows : Rows s from n) (z : Taken) (ss₀
     differ = λ i j a b c. in_chunk i j b c;
     again = λ l. (k.again e).1;
   }
-
-  pub chunk_requires : Rows s from n × ((z.count ≤ n) × ((z.next ≡ place_of s from z.count) × Holds s from z.count ss))
-  chunk_requires = (rows, (k.most, (k.next, k.holds)))
 
   pub chunk_looked : (r : ℕ) → LookPost s from n z.count r → ChunkPost s from n (record { count = z.count; next = z.next; repeat = r })
   chunk_looked r l = record {

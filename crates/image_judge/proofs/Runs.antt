@@ -12,36 +12,34 @@ use Rattle.model.specs.Numbers.{Step, got, bad, and_then, number}
 use Rattle.model.specs.Images as i
 use Rattle.model.specs.Images.{run, no_place, read_run_bytes, read_run_place, read_runs}
 use Rattle.number.specs.Links.{NumPost}
-use Rattle.number.specs.declared.Num.{Num}
-use Rattle.number.specs.declared.Num.TheVariants as n
 use Rattle.image_judge.specs.Links.{Good, Bad, one_run, RunAt, NextRunIs, RunPost, runs_for, RunsPost}
 use Rattle.image_judge.specs.declared.Run.{Run}
-use Rattle.image_judge.specs.declared.NextRun.{NextRun}
-use Rattle.image_judge.specs.declared.NextRun.TheVariants as r
-use Rattle.image_judge.specs.declared.Behind.TheVariants as b
 use Rattle.image_judge.proofs.Reading.{onto, onto_nil, onto_more, onto_bad, onto_got, bad_first, bad_second, good_both, bad_test, bad_tested, good_test, good_made, no_number_lem, a_number}
 use Rattle.image_judge.proofs.Passes.{counted_at}
+use Rattle.std.specs.Prelude.{Err, None, Ok, Option, Result, Some}
+use Rattle.image_judge.specs.declared.Broken.{Broken}
+use Rattle.image_judge.specs.declared.Broken.TheVariants.{At}
 
 -- ---- one run
 
-module _ (s : List ℕ) (at left q : ℕ) (pre : at ≤ length s) (x : Num) (p : NumPost s at x) where
-  here : Bad (read_run_bytes left) s at at → RunPost s at left q (r.Broken at)
+module _ (s : List ℕ) (at left q : ℕ) (pre : at ≤ length s) (x : Option (ℕ × ℕ)) (p : NumPost s at x) where
+  here : Bad (read_run_bytes left) s at at → RunPost s at left q (Err (At at))
   unfolding one_run
   here h = record { is = bad_first (λ n b. and_then (read_run_place q b) (λ y u. got (run n y) u)) h }
 
-  pub run_none : x ≡ n.Broken → RunPost s at left q (r.Broken at)
+  pub run_none : x ≡ None → RunPost s at left q (Err (At at))
   unfolding read_run_bytes
   run_none e = here (bad_tested (λ n. ltb 0 n && leb n left) (no_number_lem s at x p pre e))
 
-  module _ (v mid m : ℕ) (e : x ≡ n.Number v mid) (w : (m ≡ v) × (m < 4294967296)) where
+  module _ (v mid m : ℕ) (e : x ≡ Some (v, mid)) (w : (m ≡ v) × (m < 4294967296)) where
     g : Good number s at mid m
     g = counted_at s at x p v mid m e w
 
-    pub run_zero : m ≡ 0 → RunPost s at left q (r.Broken at)
+    pub run_zero : m ≡ 0 → RunPost s at left q (Err (At at))
     unfolding read_run_bytes
     run_zero z = here (bad_test (λ n. ltb 0 n && leb n left) g (rw z))
 
-    pub run_long : (m ≡ 0 → ⊥) → left < m → RunPost s at left q (r.Broken at)
+    pub run_long : (m ≡ 0 → ⊥) → left < m → RunPost s at left q (Err (At at))
     unfolding read_run_bytes
     run_long z l = here (bad_test (λ n. ltb 0 n && leb n left) g (rw (lt-ltb 0 m (pos_of_ne-zero z), lt-leb m left l)))
 
@@ -50,21 +48,21 @@ module _ (s : List ℕ) (at left q : ℕ) (pre : at ≤ length s) (x : Num) (p :
       unfolding read_run_bytes
       first = good_test (λ n. ltb 0 n && leb n left) g (rw (lt-ltb 0 m (pos_of_ne-zero z), le-leb m left l))
 
-      module _ (y : Num) (o : NumPost s mid y) where
-        there : Bad (read_run_place q) s mid mid → RunPost s at left q (r.Broken mid)
+      module _ (y : Option (ℕ × ℕ)) (o : NumPost s mid y) where
+        there : Bad (read_run_place q) s mid mid → RunPost s at left q (Err (At mid))
         unfolding one_run
         there h = record { is = bad_second (λ n b. and_then (read_run_place q b) (λ y u. got (run n y) u)) first (bad_first (λ y u. got (run m y) u) h) }
 
-        pub run_no_place : y ≡ n.Broken → RunPost s at left q (r.Broken mid)
+        pub run_no_place : y ≡ None → RunPost s at left q (Err (At mid))
         unfolding read_run_place
         run_no_place f = there (bad_tested (λ y. not (eqb q y)) (no_number_lem s mid y o g.within f))
 
-        module _ (u next : ℕ) (f : y ≡ n.Number u next) (u' : ℕ) (k : u' ≡ u) where
-          pub run_again : q ≡ u' → RunPost s at left q (r.Broken mid)
+        module _ (u next : ℕ) (f : y ≡ Some (u, next)) (u' : ℕ) (k : u' ≡ u) where
+          pub run_again : q ≡ u' → RunPost s at left q (Err (At mid))
           unfolding read_run_place
           run_again d = there (bad_test (λ y. not (eqb q y)) (a_number s mid y o u next f) (rw (eq-eqb q u (d ∙ k))))
 
-          pub run_read : (q ≡ u' → ⊥) → RunPost s at left q (r.Is (record { bytes = m; place = u; next = next }))
+          pub run_read : (q ≡ u' → ⊥) → RunPost s at left q (Ok (record { bytes = m; place = u; next = next }))
           unfolding read_run_place one_run
           run_read d = record {
             is = record {
@@ -75,10 +73,10 @@ module _ (s : List ℕ) (at left q : ℕ) (pre : at ≤ length s) (x : Num) (p :
             };
           }
 
-pub run_is : (s : List ℕ) (at left q : ℕ) (x : NextRun) → RunPost s at left q x → (p : Run) → x ≡ r.Is p → RunAt s at left q p
+pub run_is : (s : List ℕ) (at left q : ℕ) (x : Result Run Broken) → RunPost s at left q x → (p : Run) → x ≡ Ok p → RunAt s at left q p
 run_is s at left q x h p e = subst (NextRunIs s at left q) e h.is
 
-pub run_not : (s : List ℕ) (at left q : ℕ) (x : NextRun) → RunPost s at left q x → (o : ℕ) → x ≡ r.Broken o → Bad (one_run left q) s at o
+pub run_not : (s : List ℕ) (at left q : ℕ) (x : Result Run Broken) → RunPost s at left q x → (o : ℕ) → x ≡ Err (At o) → Bad (one_run left q) s at o
 run_not s at left q x h o e = subst (NextRunIs s at left q) e h.is
 
 -- ---- all runs
@@ -141,11 +139,11 @@ module _ (s : List ℕ) (at size cur left q : ℕ) (done : List ℕ) (h : Runnin
     within = h.within;
   }
 
-  module _ (l : 0 < left) (x : NextRun) (p : RunPost s cur left q x) where
+  module _ (l : 0 < left) (x : Result Run Broken) (p : RunPost s cur left q x) where
     o : (f : ℕ) × (h.fuel ≡ suc f) × ((q : ℕ) (b : List ℕ) → read_runs h.fuel left q b ≡ and_then (one_run left q b) (then_runs f left))
     o = opens h.fuel left h.enough l
 
-    pub runs_bad : (k : ℕ) → x ≡ r.Broken k → Bad (runs_for size) s at k
+    pub runs_bad : (k : ℕ) → x ≡ Err (At k) → Bad (runs_for size) s at k
     runs_bad k e =
         let b = run_not s cur left q x p k e in
         record {
@@ -154,7 +152,7 @@ module _ (s : List ℕ) (at size cur left q : ℕ) (done : List ℕ) (h : Runnin
           within = b.within;
         }
 
-    module _ (y : Run) (e : x ≡ r.Is y) where
+    module _ (y : Run) (e : x ≡ Ok y) where
       pub runs_fits : y.bytes ≤ left
       runs_fits = (run_is s cur left q x p y e).most
 
@@ -189,15 +187,15 @@ pub judging_start : (s : List ℕ) (at size : ℕ) → at ≤ length s → Judgi
 judging_start s at size h = record { done = []; runs = runs_start s at size h }
 
 module _ (s : List ℕ) (at size cur left q : ℕ) (h : Judging s at size cur left q) where
-  pub judging_end : left ≤ 0 → RunsPost s at size (b.At cur)
+  pub judging_end : left ≤ 0 → RunsPost s at size (Ok cur)
   judging_end l = record { is = record { held = h.done; good = runs_good s at size cur left q h.done h.runs l } }
 
-  module _ (l : 0 < left) (x : NextRun) (p : RunPost s cur left q x) where
-    pub judging_bad : (k : ℕ) → x ≡ r.Broken k → RunsPost s at size (b.Broken k)
-    judging_bad k e = record { is = runs_bad s at size cur left q h.done h.runs l x p k e }
+  module _ (l : 0 < left) (x : Result Run Broken) (p : RunPost s cur left q x) where
+    pub judging_bad : (b : Broken) → x ≡ Err b → RunsPost s at size (Err b)
+    judging_bad (At k) e = record { is = runs_bad s at size cur left q h.done h.runs l x p k e }
 
-    pub judging_fits : (y : Run) → x ≡ r.Is y → (y.bytes ≤ left) × (left - y.bytes < left)
+    pub judging_fits : (y : Run) → x ≡ Ok y → (y.bytes ≤ left) × (left - y.bytes < left)
     judging_fits y e = (runs_fits s at size cur left q h.done h.runs l x p y e, runs_less s at size cur left q h.done h.runs l x p y e)
 
-    pub judging_step : (y : Run) → x ≡ r.Is y → (k : ℕ) → k ≡ y.place → Judging s at size y.next (left - y.bytes) k
+    pub judging_step : (y : Run) → x ≡ Ok y → (k : ℕ) → k ≡ y.place → Judging s at size y.next (left - y.bytes) k
     judging_step y e k ek = record { done = h.done ++ replicate y.bytes y.place; runs = runs_step s at size cur left q h.done h.runs l x p y e k ek }

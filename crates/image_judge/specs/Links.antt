@@ -1,39 +1,27 @@
 -- What the answers of the code stand for. `s` is the image, and a place is an offset in it.
-use Rattle.std.specs.Prelude.{◌≡◌, Bool, true, false, not, List, [], ◌∷◌, ℕ, zero, suc, ◌+◌, ◌-◌, ◌≤◌, ◌<◌, ◌^◌, ltb, eqb, length, take, drop, if◌then◌else◌}
+use Rattle.std.specs.Prelude.{◌≡◌, Bool, true, false, not, List, [], ◌∷◌, ℕ, zero, suc, ◌+◌, ◌-◌, ◌≤◌, ◌<◌, ◌^◌, ltb, eqb, length, take, drop, if◌then◌else◌, Err, None, Ok, Option, Result, Some}
 use Rattle.model.specs.Numbers.{Step, got, bad, and_then}
 use Rattle.model.specs.Programs.{Constant, scalar, boolean, string, reference, Function, Program, function_at, codes_within}
 use Rattle.model.specs.Images as i
 use Rattle.model.specs.Images.{joined, run, series, read_text, no_place, read_run_bytes, read_run_place, read_runs, read_function, read_functions, fine, broken, judge}
 use Rattle.model.specs.Stores.{pack}
 use Rattle.model.specs.Loading.{constant_text, constant_words, texts_of, main_of, others_of}
-use Rattle.image_judge.specs.declared.Text.{Text}
-use Rattle.image_judge.specs.declared.Text.TheVariants as t
 use Rattle.image_judge.specs.declared.Entry.{Entry}
-use Rattle.image_judge.specs.declared.Item.{Item}
-use Rattle.image_judge.specs.declared.Item.TheVariants as e
 use Rattle.image_judge.specs.declared.Section.{Section}
-use Rattle.image_judge.specs.declared.Checked.{Checked}
-use Rattle.image_judge.specs.declared.Checked.TheVariants as c
 use Rattle.image_judge.specs.declared.Run.{Run}
-use Rattle.image_judge.specs.declared.NextRun.{NextRun}
-use Rattle.image_judge.specs.declared.NextRun.TheVariants as r
-use Rattle.image_judge.specs.declared.Behind.{Behind}
-use Rattle.image_judge.specs.declared.Behind.TheVariants as b
 use Rattle.image_judge.specs.declared.Head.{Head}
-use Rattle.image_judge.specs.declared.Begun.{Begun}
-use Rattle.image_judge.specs.declared.Begun.TheVariants as h
 use Rattle.image_judge.specs.declared.Span.{Span}
-use Rattle.image_judge.specs.declared.Spanned.{Spanned}
-use Rattle.image_judge.specs.declared.Spanned.TheVariants as p
 use Rattle.image_judge.specs.declared.Others.{Others}
-use Rattle.image_judge.specs.declared.Rest.{Rest}
-use Rattle.image_judge.specs.declared.Rest.TheVariants as o
 use Rattle.image_judge.specs.declared.Sizes.{Sizes}
-use Rattle.image_judge.specs.declared.Judgement.{Judgement}
-use Rattle.image_judge.specs.declared.Judgement.TheVariants as j
 use Rattle.image_judge.specs.declared.Ended.{Ended}
-use Rattle.image_judge.specs.declared.Coded.{Coded}
-use Rattle.image_judge.specs.declared.Coded.TheVariants as d
+use Rattle.image_judge.specs.declared.Broken.{Broken}
+use Rattle.image_judge.specs.declared.Broken.TheVariants.{At}
+use Rattle.model.specs.declared.Refusal.{Refusal}
+use Rattle.model.specs.declared.Refusal.TheVariants as why
+
+-- what a broken image is refused with
+abbrev pub refused : Broken → Refusal
+refused (At o) = why.BrokenImage o
 
 -- ---- reading at a place
 
@@ -60,11 +48,11 @@ pub record TextAt (s : List ℕ) (at i n : ℕ) : Type 0 where
   pub near : i ≤ at + 5
   pub small : n < 2 ^ 32
 
-abbrev pub TextIs : List ℕ → ℕ → Text → Type 0
-TextIs s at (t.At i n) = TextAt s at i n
-TextIs s at t.Broken = Bad read_text s at at
+abbrev pub TextIs : List ℕ → ℕ → Option (ℕ × ℕ) → Type 0
+TextIs s at (Some (i, n)) = TextAt s at i n
+TextIs s at None = Bad read_text s at at
 
-pub record TextPost (s : List ℕ) (at : ℕ) (r : Text) : Type 0 where
+pub record TextPost (s : List ℕ) (at : ℕ) (r : Option (ℕ × ℕ)) : Type 0 where
   pub is : TextIs s at r
 
 -- ---- constants
@@ -90,11 +78,11 @@ pub record EntryAt (dec : List ℕ → Step Constant) (s : List ℕ) (at : ℕ) 
   pub small : p.len < 2 ^ 32
   pub room : at + p.len ≤ p.next
 
-abbrev pub ItemIs : (List ℕ → Step Constant) → List ℕ → ℕ → Item → Type 0
-ItemIs dec s at (e.Is p) = EntryAt dec s at p
-ItemIs dec s at (e.Broken o) = Bad dec s at o
+abbrev pub ItemIs : (List ℕ → Step Constant) → List ℕ → ℕ → Result Entry Broken → Type 0
+ItemIs dec s at (Ok p) = EntryAt dec s at p
+ItemIs dec s at (Err (At o)) = Bad dec s at o
 
-pub record ItemPost (dec : List ℕ → Step Constant) (s : List ℕ) (at : ℕ) (r : Item) : Type 0 where
+pub record ItemPost (dec : List ℕ → Step Constant) (s : List ℕ) (at : ℕ) (r : Result Entry Broken) : Type 0 where
   pub is : ItemIs dec s at r
 
 -- ---- a section: a count, and each with its text
@@ -106,11 +94,11 @@ pub record SectionAt {A : Type 0} (dec : List ℕ → Step (List A)) (text_of : 
   pub text : z.text ≡ length (joined text_of held)
   pub room : at + z.text ≤ z.next
 
-abbrev pub CheckedIs : {A : Type 0} → (List ℕ → Step (List A)) → (A → List ℕ) → List ℕ → ℕ → Checked → Type 0
-CheckedIs dec text_of s at (c.Fine z) = SectionAt dec text_of s at z
-CheckedIs dec text_of s at (c.Broken o) = Bad dec s at o
+abbrev pub CheckedIs : {A : Type 0} → (List ℕ → Step (List A)) → (A → List ℕ) → List ℕ → ℕ → Result Section Broken → Type 0
+CheckedIs dec text_of s at (Ok z) = SectionAt dec text_of s at z
+CheckedIs dec text_of s at (Err (At o)) = Bad dec s at o
 
-pub record CheckPost {A : Type 0} (dec : List ℕ → Step (List A)) (text_of : A → List ℕ) (s : List ℕ) (at : ℕ) (r : Checked) : Type 0 where
+pub record CheckPost {A : Type 0} (dec : List ℕ → Step (List A)) (text_of : A → List ℕ) (s : List ℕ) (at : ℕ) (r : Result Section Broken) : Type 0 where
   pub is : CheckedIs dec text_of s at r
 
 -- ---- runs
@@ -124,11 +112,11 @@ pub record RunAt (s : List ℕ) (at left q : ℕ) (p : Run) : Type 0 where
   pub some : 0 < p.bytes
   pub most : p.bytes ≤ left
 
-abbrev pub NextRunIs : List ℕ → ℕ → ℕ → ℕ → NextRun → Type 0
-NextRunIs s at left q (r.Is p) = RunAt s at left q p
-NextRunIs s at left q (r.Broken o) = Bad (one_run left q) s at o
+abbrev pub NextRunIs : List ℕ → ℕ → ℕ → ℕ → Result Run Broken → Type 0
+NextRunIs s at left q (Ok p) = RunAt s at left q p
+NextRunIs s at left q (Err (At o)) = Bad (one_run left q) s at o
 
-pub record RunPost (s : List ℕ) (at left q : ℕ) (x : NextRun) : Type 0 where
+pub record RunPost (s : List ℕ) (at left q : ℕ) (x : Result Run Broken) : Type 0 where
   pub is : NextRunIs s at left q x
 
 -- the runs of `size` bytes of code
@@ -139,11 +127,11 @@ pub record RunsAt (s : List ℕ) (at size next : ℕ) : Type 0 where
   pub held : List ℕ
   pub good : Good (runs_for size) s at next held
 
-abbrev pub BehindIs : List ℕ → ℕ → ℕ → Behind → Type 0
-BehindIs s at size (b.At next) = RunsAt s at size next
-BehindIs s at size (b.Broken o) = Bad (runs_for size) s at o
+abbrev pub BehindIs : List ℕ → ℕ → ℕ → Result ℕ Broken → Type 0
+BehindIs s at size (Ok next) = RunsAt s at size next
+BehindIs s at size (Err (At o)) = Bad (runs_for size) s at o
 
-pub record RunsPost (s : List ℕ) (at size : ℕ) (x : Behind) : Type 0 where
+pub record RunsPost (s : List ℕ) (at size : ℕ) (x : Result ℕ Broken) : Type 0 where
   pub is : BehindIs s at size x
 
 -- ---- functions
@@ -159,11 +147,11 @@ pub record HeadAt (first : Bool) (s : List ℕ) (at : ℕ) (x : Head) : Type 0 w
   pub small : (x.len < 2 ^ 32) × (x.size < 2 ^ 32)
   pub room : at + x.len ≤ x.code
 
-abbrev pub BegunIs : Bool → List ℕ → ℕ → Begun → Type 0
-BegunIs first s at (h.Is x) = HeadAt first s at x
-BegunIs first s at (h.Broken o) = Bad (read_function first) s at o
+abbrev pub BegunIs : Bool → List ℕ → ℕ → Result Head Broken → Type 0
+BegunIs first s at (Ok x) = HeadAt first s at x
+BegunIs first s at (Err (At o)) = Bad (read_function first) s at o
 
-pub record HeadPost (first : Bool) (s : List ℕ) (at : ℕ) (r : Begun) : Type 0 where
+pub record HeadPost (first : Bool) (s : List ℕ) (at : ℕ) (r : Result Head Broken) : Type 0 where
   pub is : BegunIs first s at r
 
 pub record SpanAt (first : Bool) (s : List ℕ) (at : ℕ) (z : Span) : Type 0 where
@@ -173,11 +161,11 @@ pub record SpanAt (first : Bool) (s : List ℕ) (at : ℕ) (z : Span) : Type 0 w
   pub code : z.code ≡ length held.code
   pub room : at + z.name + z.code ≤ z.next
 
-abbrev pub SpannedIs : Bool → List ℕ → ℕ → Spanned → Type 0
-SpannedIs first s at (p.Is z) = SpanAt first s at z
-SpannedIs first s at (p.Broken o) = Bad (read_function first) s at o
+abbrev pub SpannedIs : Bool → List ℕ → ℕ → Result Span Broken → Type 0
+SpannedIs first s at (Ok z) = SpanAt first s at z
+SpannedIs first s at (Err (At o)) = Bad (read_function first) s at o
 
-pub record SpanPost (first : Bool) (s : List ℕ) (at : ℕ) (r : Spanned) : Type 0 where
+pub record SpanPost (first : Bool) (s : List ℕ) (at : ℕ) (r : Result Span Broken) : Type 0 where
   pub is : SpannedIs first s at r
 
 -- the functions behind main
@@ -192,11 +180,11 @@ pub record OthersAt (n : ℕ) (s : List ℕ) (at : ℕ) (z : Others) : Type 0 wh
   pub within : z.within ≡ codes_within held
   pub room : at + z.text + z.code ≤ z.next
 
-abbrev pub RestIs : ℕ → List ℕ → ℕ → Rest → Type 0
-RestIs n s at (o.Fine z) = OthersAt n s at z
-RestIs n s at (o.Broken k) = Bad (others_for n) s at k
+abbrev pub RestIs : ℕ → List ℕ → ℕ → Result Others Broken → Type 0
+RestIs n s at (Ok z) = OthersAt n s at z
+RestIs n s at (Err (At k)) = Bad (others_for n) s at k
 
-pub record OthersPost (n : ℕ) (s : List ℕ) (at : ℕ) (r : Rest) : Type 0 where
+pub record OthersPost (n : ℕ) (s : List ℕ) (at : ℕ) (r : Result Others Broken) : Type 0 where
   pub is : RestIs n s at r
 
 -- all functions, the first of them main
@@ -214,11 +202,11 @@ pub record FunctionsAt (s : List ℕ) (at : ℕ) (z : Ended) : Type 0 where
   pub within : z.within ≡ codes_within held
   pub room : at + z.text ≤ z.next
 
-abbrev pub CodedIs : List ℕ → ℕ → Coded → Type 0
-CodedIs s at (d.Fine z) = FunctionsAt s at z
-CodedIs s at (d.Broken o) = Bad read_functions s at o
+abbrev pub CodedIs : List ℕ → ℕ → Result Ended Broken → Type 0
+CodedIs s at (Ok z) = FunctionsAt s at z
+CodedIs s at (Err (At o)) = Bad read_functions s at o
 
-pub record FunctionsPost (s : List ℕ) (at : ℕ) (r : Coded) : Type 0 where
+pub record FunctionsPost (s : List ℕ) (at : ℕ) (r : Result Ended Broken) : Type 0 where
   pub is : CodedIs s at r
 
 -- ---- the whole image
@@ -239,9 +227,9 @@ pub record Says (s : List ℕ) (z : Sizes) : Type 0 where
   pub sizes : SizesOf program z
   pub begins : Good (functions_for z.functions) s z.first (length s) program.functions
 
-abbrev pub JudgementIs : List ℕ → Judgement → Type 0
-JudgementIs s (j.Fine z) = Says s z
-JudgementIs s (j.Broken o) = judge s ≡ broken o
+abbrev pub JudgementIs : List ℕ → Result Sizes Broken → Type 0
+JudgementIs s (Ok z) = Says s z
+JudgementIs s (Err (At o)) = judge s ≡ broken o
 
-pub record JudgePost (s : List ℕ) (r : Judgement) : Type 0 where
+pub record JudgePost (s : List ℕ) (r : Result Sizes Broken) : Type 0 where
   pub is : JudgementIs s r

@@ -3,7 +3,7 @@
 ghost use Rattle.std.specs.Prelude.{◌≡◌, ◌≤◌, length};
 ghost use Rattle.image_judge.specs.Repeats.{place_of, Rows, RowsPost, RepeatPost, Holds, TakenPost, LookPost, ChunkPost};
 
-use crate::{Text, read_text};
+use crate::read_text;
 use layout::ordered::{put_struct, spot, stands};
 use layout::reads::{lesser, pack};
 use model::MOST_PLACES;
@@ -14,15 +14,13 @@ pub fn rows(image: &[u8], at: usize, n: usize) -> usize
     ensures { RowsPost image.now at n result }
 {
     let mut next = at;
-    let mut i: usize = 0;
-    while i < n {
-        let Text::At(here, len) = read_text(image, next) else {
+    for i in 0..n {
+        let Some((here, len)) = read_text(image, next) else {
             return i;
         };
         next = here + len;
-        i = i + 1;
     }
-    i
+    n
 }
 
 // The texts that a chunk took: how many, where the next one stands, and whether that one is there already.
@@ -41,9 +39,8 @@ fn take_in(image: &[u8], from: usize, n: usize, structs: &mut [u64]) -> Taken
     let most = lesser(n, structs.len() / 2);
     let end = image.len();
     let mut next = from;
-    let mut i: usize = 0;
-    while i < most {
-        let Text::At(here, len) = read_text(image, next) else {
+    for i in 0..most {
+        let Some((here, len)) = read_text(image, next) else {
             return Taken {
                 count: i,
                 next,
@@ -70,10 +67,9 @@ fn take_in(image: &[u8], from: usize, n: usize, structs: &mut [u64]) -> Taken
         let word = pack(start, len);
         put_struct(structs, place, i, word);
         next = behind;
-        i = i + 1;
     }
     Taken {
-        count: i,
+        count: most,
         next,
         again: false,
     }
@@ -86,9 +82,8 @@ fn look_in(image: &[u8], from: usize, n: usize, k: usize, at: usize, structs: &[
 {
     let end = image.len();
     let mut next = at;
-    let mut i = k;
-    while i < n {
-        let Text::At(here, len) = read_text(image, next) else {
+    for i in k..n {
+        let Some((here, len)) = read_text(image, next) else {
             return i;
         };
         let behind = here + len;
@@ -97,9 +92,8 @@ fn look_in(image: &[u8], from: usize, n: usize, k: usize, at: usize, structs: &[
             return i;
         }
         next = behind;
-        i = i + 1;
     }
-    i
+    n
 }
 
 // A chunk: how many texts it took, where the next one stands, and the first text that is there again.
@@ -141,6 +135,7 @@ fn over_chunks(image: &[u8], at: usize, n: usize, structs: &mut [u64]) -> usize
     let mut repeat = n;
     let mut next = at;
     let mut done: usize = 0;
+    // Each step is as long as its chunk, so this is no `for`.
     while done < repeat {
         let left = repeat - done;
         let c = against_chunk(image, next, left, structs);

@@ -15,18 +15,10 @@ use Rattle.model.specs.Orders.{name_in_order}
 use Rattle.model.specs.Emission.{written}
 use Rattle.model.specs.Loading.{constant_text, constant_words, constants_laid, structs_laid}
 use Rattle.number.specs.Links.{NumPost}
-use Rattle.number.specs.declared.Num.{Num}
-use Rattle.number.specs.declared.Num.TheVariants as n
 use Rattle.image_judge.specs.Links.{Good, Bad, part_of, TextPost, constant_at, payload_at, EntryAt, ItemPost, RunPost}
 use Rattle.image_load.specs.Fills.{Has, ConstantsFit, ConstantsFilled, StructsFit, StructsFilled, RunsFit, RunsFilled}
-use Rattle.image_judge.specs.declared.Text.{Text}
-use Rattle.image_judge.specs.declared.Text.TheVariants as text
 use Rattle.image_judge.specs.declared.Entry.{Entry}
-use Rattle.image_judge.specs.declared.Item.{Item}
-use Rattle.image_judge.specs.declared.Item.TheVariants as e
 use Rattle.image_judge.specs.declared.Run.{Run}
-use Rattle.image_judge.specs.declared.NextRun.{NextRun}
-use Rattle.image_judge.specs.declared.NextRun.TheVariants as r
 use Rattle.laws_names.specs.Sorted.{Edge, struct_put}
 use Rattle.laws_names.proofs.Laying.{Unlike, unlike_more, length_order, laid_length as structs_length, laid_more as structs_more}
 use Rattle.layout.proofs.Bools.{either_way}
@@ -39,6 +31,9 @@ use Rattle.laws_images.proofs.Held.{written_front, Pieces, pieces_here, StructsA
 use Rattle.image_judge.proofs.Runs.{Running, runs_start, runs_good, runs_bad, runs_fits, runs_less, runs_step}
 use Rattle.image_judge.proofs.Functions.{series_count}
 use Rattle.laws_images.proofs.Written.{written_none, written_two, kept_length, more_written, more_joined}
+use Rattle.std.specs.Prelude.{Err, None, Ok, Option, Result, Some}
+use Rattle.image_judge.specs.declared.Broken.{Broken}
+use Rattle.image_judge.specs.declared.Broken.TheVariants.{At}
 
 -- ---- what was judged
 
@@ -131,7 +126,7 @@ pub record FillingConstants (s : List ℕ) (first k : ℕ) (cs₀ tx₀ cs tx : 
   pub texts : tx ≡ written tx₀ 0 (joined constant_text done)
 
 module _ (s : List ℕ) (at : ℕ) (cs₀ tx₀ : List ℕ) (fit : ConstantsFit s at cs₀ tx₀) where
-  pub constants_no_count : (x : Num) → NumPost s at x → x ≡ n.Broken → ⊥
+  pub constants_no_count : (x : Option (ℕ × ℕ)) → NumPost s at x → x ≡ None → ⊥
   unfolding read_constants
   constants_no_count x p q = has_never s at fit.held at fit.has (bad_first (λ k r. series read_constant always k tt r) (no_number_lem s at x p fit.has.within q))
 
@@ -161,11 +156,11 @@ module _ (s : List ℕ) (at : ℕ) (cs₀ tx₀ : List ℕ) (fit : ConstantsFit 
         texts = h.texts;
       }
 
-      module _ (l : i < k) (x : Item) (p : ItemPost (read_constant tt) s next x) where
-        pub constants_never : (o : ℕ) → x ≡ e.Broken o → ⊥
-        constants_never o q = series_never read_constant always k tt s first fit.held inner i tt next h.done h.along l o (entry_not _ s next x p o q)
+      module _ (l : i < k) (x : Result Entry Broken) (p : ItemPost (read_constant tt) s next x) where
+        pub constants_never : (b : Broken) → x ≡ Err b → ⊥
+        constants_never (At o) q = series_never read_constant always k tt s first fit.held inner i tt next h.done h.along l o (entry_not _ s next x p o q)
 
-        module _ (y : Entry) (q : x ≡ e.Is y) where
+        module _ (y : Entry) (q : x ≡ Ok y) where
           g : EntryAt (read_constant tt) s next y
           g = entry_is _ s next x p y q
 
@@ -178,9 +173,6 @@ module _ (s : List ℕ) (at : ℕ) (cs₀ tx₀ : List ℕ) (fit : ConstantsFit 
               let f = series_fits read_constant always k tt s first fit.held inner i tt next h.done h.along constant_text l y.next (constant_at s y) g.good in
               let a = fit.text in let b = fit.small in let d = h.sized in let z = text_size in let w = fit.words in let v = counts in
               (omega arith, (omega arith, omega arith))
-
-          pub entry_inside : y.from + y.len ≤ length s
-          entry_inside = g.inside
 
           pub entry_small : y.len < 2 ^ 32
           entry_small = g.small
@@ -218,7 +210,7 @@ pub record FillingStructs (s : List ℕ) (first k t₀ : ℕ) (ss₀ tx₀ ss tx
   pub unlike : Unlike (length done) done
 
 module _ (s : List ℕ) (at t₀ : ℕ) (ss₀ tx₀ : List ℕ) (fit : StructsFit s at t₀ ss₀ tx₀) where
-  pub structs_no_count : (x : Num) → NumPost s at x → x ≡ n.Broken → ⊥
+  pub structs_no_count : (x : Option (ℕ × ℕ)) → NumPost s at x → x ≡ None → ⊥
   unfolding read_structs
   structs_no_count x p q = has_never s at fit.held at fit.has (bad_first (λ k r. series read_name snoc k [] r) (no_number_lem s at x p fit.has.within q))
 
@@ -255,15 +247,15 @@ module _ (s : List ℕ) (at t₀ : ℕ) (ss₀ tx₀ : List ℕ) (fit : StructsF
         texts = h.texts;
       }
 
-      module _ (l : i < k) (x : Text) (p : TextPost s next x) where
+      module _ (l : i < k) (x : Option (ℕ × ℕ)) (p : TextPost s next x) where
         no : (o : ℕ) → Bad (read_name h.done) s next o → ⊥
         no o b = series_never read_name snoc k [] s first fit.held names_inner i h.done next h.done h.along l o b
 
-        pub structs_never : x ≡ text.Broken → ⊥
+        pub structs_never : x ≡ None → ⊥
         unfolding read_name
         structs_never q = no next (bad_tested (λ t. not (among t h.done)) (text_not s next x p q))
 
-        module _ (y m : ℕ) (q : x ≡ text.At y m) where
+        module _ (y m : ℕ) (q : x ≡ Some (y, m)) where
           -- it is a name that is none of those before it: it was judged
           new_name_lem : not (among (part_of s y m) h.done) ≡ true
           unfolding read_name
@@ -345,11 +337,11 @@ module _ (s : List ℕ) (at size c : ℕ) (pl₀ : List ℕ) (fit : RunsFit s at
     pub runs_filled : left ≤ 0 → RunsFilled s at size c pl₀ next pl
     runs_filled l = record { held = h.done; good = runs_good s at size next left q h.done h.runs l; count = (let z = h.runs.total in omega arith); stored = h.stored }
 
-    module _ (l : 0 < left) (x : NextRun) (p : RunPost s next left q x) where
-      pub runs_never : (o : ℕ) → x ≡ r.Broken o → ⊥
-      runs_never o f = has_never s at fit.held o fit.has (runs_bad s at size next left q h.done h.runs l x p o f)
+    module _ (l : 0 < left) (x : Result Run Broken) (p : RunPost s next left q x) where
+      pub runs_never : (b : Broken) → x ≡ Err b → ⊥
+      runs_never (At o) f = has_never s at fit.held o fit.has (runs_bad s at size next left q h.done h.runs l x p o f)
 
-      module _ (y : Run) (f : x ≡ r.Is y) where
+      module _ (y : Run) (f : x ≡ Ok y) where
         pub runs_most : (y.bytes ≤ left) × (left - y.bytes < left)
         runs_most = (runs_fits s at size next left q h.done h.runs l x p y f, runs_less s at size next left q h.done h.runs l x p y f)
 

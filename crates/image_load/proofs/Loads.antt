@@ -14,13 +14,10 @@ use Rattle.model.specs.Images.{joined, read_constants, read_structs, read_functi
 use Rattle.model.specs.Stores.{Stores}
 use Rattle.model.specs.Emission.{written, counts}
 use Rattle.model.specs.Loading.{constant_text, constants_laid, structs_laid, functions_laid, constant_texts, struct_texts, texts_of, main_of, others_of, laid, counts_for, room_for, load_judged, load_of}
-use Rattle.model.specs.declared.Loaded.TheVariants as l
-use Rattle.image_judge.specs.Links.{SizesOf, Says, JudgementIs, JudgePost}
+use Rattle.image_judge.specs.Links.{refused, SizesOf, Says, JudgementIs, JudgePost}
 use Rattle.model.specs.Stores.{stores_of as lent}
 use Rattle.image_load.specs.Fills.{bytes_in, ConstantsFit, ConstantsFilled, StructsFit, StructsFilled, FunctionsFit, FunctionsFilled, Fits, LaidPost}
 use Rattle.image_judge.specs.declared.Sizes.{Sizes}
-use Rattle.image_judge.specs.declared.Judgement.{Judgement}
-use Rattle.image_judge.specs.declared.Judgement.TheVariants as j
 use Rattle.image_load.specs.declared.loading.Filled.{Filled}
 use Rattle.layout.proofs.Bools.{both_true}
 use Rattle.number.proofs.Codes.{never}
@@ -28,6 +25,10 @@ use Rattle.laws_images.proofs.Codecs.{then_only, got_value, got_rest}
 pub use Rattle.layout.proofs.Parts.{one_word, two_words}
 use Rattle.laws_images.proofs.Formats.{judged_fine}
 use Rattle.laws_images.proofs.Written.{kept_length, more_written}
+use Rattle.std.specs.Prelude.{Err, Ok, Result}
+use Rattle.image_judge.specs.declared.Broken.{Broken}
+use Rattle.model.specs.declared.Refusal.TheVariants as why
+use Rattle.image_judge.specs.declared.Broken.TheVariants.{At}
 
 -- ---- the parts of a program that was judged
 
@@ -222,33 +223,33 @@ unfolding room_for
 room_by p z x r1 r2 r3 r4 r5 r6 r7 r8 h e1 e2 e3 e4 e5 e6 e7 e8 =
     rw (e1, e2, e3, e4, e5, e6, e7, e8, h.constants, h.structs, h.functions, h.text, h.main, h.other)
 
-pub judged_not : (s : List ℕ) (r : Judgement) → JudgePost s r → (o : ℕ) → r ≡ j.Broken o → judge s ≡ broken o
+pub judged_not : (s : List ℕ) (r : Result Sizes Broken) → JudgePost s r → (o : ℕ) → r ≡ Err (At o) → judge s ≡ broken o
 judged_not s r h o e = subst (JudgementIs s) e h.is
 
-pub judged_is : (s : List ℕ) (r : Judgement) → JudgePost s r → (z : Sizes) → r ≡ j.Fine z → Says s z
+pub judged_is : (s : List ℕ) (r : Result Sizes Broken) → JudgePost s r → (z : Sizes) → r ≡ Ok z → Says s z
 judged_is s r h z e = subst (JudgementIs s) e h.is
 
-module _ (s : List ℕ) (x : Stores) (r : Judgement) (h : JudgePost s r) where
-  pub load_broken : (o : ℕ) → r ≡ j.Broken o → record { answer = l.Broken o; stores = x } ≡ load_of s x
+module _ (s : List ℕ) (x : Stores) (r : Result Sizes Broken) (h : JudgePost s r) where
+  pub load_broken : (b : Broken) → r ≡ Err b → record { answer = Err (refused b); stores = x } ≡ load_of s x
   unfolding load_of load_judged
-  load_broken o e = rw (judged_not s r h o e)
+  load_broken (At o) e = rw (judged_not s r h o e)
 
-  module _ (z : Sizes) (e : r ≡ j.Fine z) where
+  module _ (z : Sizes) (e : r ≡ Ok z) where
     g : Says s z
     g = judged_is s r h z e
 
     module _ (w : Bool) (tells : (p : Program) → SizesOf p z → w ≡ within_limits p) where
-      pub load_22 : not w ≡ true → record { answer = l.Refused 22; stores = x } ≡ load_of s x
+      pub load_over : not w ≡ true → record { answer = Err why.OverLimit; stores = x } ≡ load_of s x
       unfolding load_of load_judged
-      load_22 a = rw (g.judged, sym (tells g.program g.sizes) ∙ not-true _ a)
+      load_over a = rw (g.judged, sym (tells g.program g.sizes) ∙ not-true _ a)
 
       module _ (a : not w ≡ false) (f : Bool) (holds : (p : Program) → SizesOf p z → f ≡ room_for p x) where
         within : within_limits g.program ≡ true
         within = sym (tells g.program g.sizes) ∙ not-false _ a
 
-        pub load_21 : not f ≡ true → record { answer = l.Refused 21; stores = x } ≡ load_of s x
+        pub load_full : not f ≡ true → record { answer = Err why.StoreFull; stores = x } ≡ load_of s x
         unfolding load_of load_judged
-        load_21 b = rw (g.judged, within, sym (holds g.program g.sizes) ∙ not-true _ b)
+        load_full b = rw (g.judged, within, sym (holds g.program g.sizes) ∙ not-true _ b)
 
         module _ (b : not f ≡ false) where
           roomy : room_for g.program x ≡ true
@@ -257,8 +258,8 @@ module _ (s : List ℕ) (x : Stores) (r : Judgement) (h : JudgePost s r) where
           pub load_fits : Fits s x
           load_fits = record { program = g.program; judged = g.judged; room = roomy }
 
-          pub load_done : (x' : Stores) → LaidPost s x x' → record { answer = l.Done (counts z.constants z.structs z.functions z.text 0); stores = x' } ≡ load_of s x
+          pub load_done : (x' : Stores) → LaidPost s x x' → record { answer = Ok (counts z.constants z.structs z.functions z.text 0); stores = x' } ≡ load_of s x
           unfolding load_of load_judged counts_for
           load_done x' k =
               rw (g.judged, within, roomy, ← g.sizes.constants, ← g.sizes.structs, ← g.sizes.functions, ← g.sizes.text)
-              (ap (λ (y : Stores). record { answer = l.Done (counts z.constants z.structs z.functions z.text 0); stores = y }) (k.laid g.program g.judged))
+              (ap (λ (y : Stores). record { answer = Ok (counts z.constants z.structs z.functions z.text 0); stores = y }) (k.laid g.program g.judged))

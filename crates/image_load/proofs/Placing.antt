@@ -15,13 +15,9 @@ use Rattle.model.specs.Stores.{pack}
 use Rattle.model.specs.Emission.{written}
 use Rattle.model.specs.Loading.{others_laid, functions_laid}
 use Rattle.number.specs.Links.{NumPost}
-use Rattle.number.specs.declared.Num.{Num}
-use Rattle.number.specs.declared.Num.TheVariants as n
 use Rattle.image_judge.specs.Links.{Good, part_of, runs_for, function_of, HeadAt, HeadPost, others_for}
 use Rattle.image_load.specs.Fills.{Has, bytes_in, RunsFit, RunsFilled, FunctionFits, FunctionFilled, OthersFit, OthersFilled, FunctionsFit, FunctionsFilled}
 use Rattle.image_judge.specs.declared.Head.{Head}
-use Rattle.image_judge.specs.declared.Begun.{Begun}
-use Rattle.image_judge.specs.declared.Begun.TheVariants as h
 use Rattle.image_judge.specs.declared.Span.{Span}
 use Rattle.laws_images.proofs.Codecs.{then_only, made_only}
 use Rattle.image_judge.proofs.Reading.{Along, along_start, along_step, joined_length, joined_append, bad_first, bad_test, bad_tested, good_test, no_number_lem}
@@ -29,14 +25,17 @@ use Rattle.image_judge.proofs.Items.{part_length, part_slice}
 use Rattle.image_judge.proofs.Functions.{head_is, head_not, behind_main, some_test, all_for, series_count}
 use Rattle.image_load.proofs.Filling.{has_never, has_same, has_second, series_whole, series_head}
 use Rattle.laws_images.proofs.Written.{written_none, written_two, kept_length, more_written, more_joined}
+use Rattle.std.specs.Prelude.{Err, None, Ok, Option, Result}
+use Rattle.image_judge.specs.declared.Broken.{Broken}
+use Rattle.image_judge.specs.declared.Broken.TheVariants.{At}
 
 -- ---- a function
 
-module _ (first : Bool) (s : List ℕ) (at i t c : ℕ) (fs tx cd pl : List ℕ) (fit : FunctionFits first s at i t c fs tx cd pl) (x : Begun) (w : HeadPost first s at x) where
-  pub function_never : (o : ℕ) → x ≡ h.Broken o → ⊥
-  function_never o e = has_never s at fit.held o fit.has (head_not first s at x w o e)
+module _ (first : Bool) (s : List ℕ) (at i t c : ℕ) (fs tx cd pl : List ℕ) (fit : FunctionFits first s at i t c fs tx cd pl) (x : Result Head Broken) (w : HeadPost first s at x) where
+  pub function_never : (b : Broken) → x ≡ Err b → ⊥
+  function_never (At o) e = has_never s at fit.held o fit.has (head_not first s at x w o e)
 
-  module _ (y : Head) (e : x ≡ h.Is y) where
+  module _ (y : Head) (e : x ≡ Ok y) where
     g : HeadAt first s at y
     g = head_is first s at x w y e
 
@@ -220,8 +219,8 @@ module _ (k : ℕ) (s : List ℕ) (at t₀ : ℕ) (fs₀ tx₀ cd₀ pl₀ : Lis
 
 -- ---- all functions
 
-module _ (s : List ℕ) (at t : ℕ) (fs tx mn mp ot op : List ℕ) (fit : FunctionsFit s at t fs tx mn mp ot op) (x : Num) (p : NumPost s at x) where
-  pub functions_no_count : x ≡ n.Broken → ⊥
+module _ (s : List ℕ) (at t : ℕ) (fs tx mn mp ot op : List ℕ) (fit : FunctionsFit s at t fs tx mn mp ot op) (x : Option (ℕ × ℕ)) (p : NumPost s at x) where
+  pub functions_no_count : x ≡ None → ⊥
   unfolding read_functions
   functions_no_count e = has_never s at fit.held at fit.has (bad_first all_for (bad_tested some_test (no_number_lem s at x p fit.has.within e)))
 

@@ -9,9 +9,9 @@ ghost use Rattle.model.specs.Loading.{room_for, load_of};
 ghost use Rattle.image_judge.specs.Links.{SizesOf};
 ghost use Rattle.model.specs.Stores.{stores_of as lent};
 
-use image_judge::{Judgement, Sizes, judge};
+use image_judge::{Sizes, judge};
 use layout::reads::room;
-use model::{CONSTANT_LIMIT, Counts, Loaded, NAME_LIMIT};
+use model::{CONSTANT_LIMIT, Counts, NAME_LIMIT, Refusal};
 
 // Whether a program of these sizes is within the limits.
 pub fn within_limits(z: Sizes) -> bool
@@ -58,48 +58,43 @@ pub fn load(
     main_places: &mut [u32],
     other: &mut [u8],
     other_places: &mut [u32],
-) -> Loaded
+) -> Result<Counts, Refusal>
     ensures { record { answer = result; stores = lent constants.new structs.new functions.new text.new main.new main_places.new other.new other_places.new } ≡ load_of image.now (lent constants.old structs.old functions.old text.old main.old main_places.old other.old other_places.old) }
 {
-    match judge(image) {
-        Judgement::Broken(o) => Loaded::Broken(o),
-        Judgement::Fine(z) => {
-            if !within_limits(z) {
-                return Loaded::Refused(22);
-            }
-            let fits = has_room(
-                z,
-                constants,
-                structs,
-                functions,
-                text,
-                main,
-                main_places,
-                other,
-                other_places,
-            );
-            if !fits {
-                return Loaded::Refused(21);
-            }
-            loading::load_all(
-                image,
-                constants,
-                structs,
-                functions,
-                text,
-                main,
-                main_places,
-                other,
-                other_places,
-            );
-            let counts = Counts {
-                constants: z.constants,
-                structs: z.structs,
-                functions: z.functions,
-                text: z.text,
-                current: 0,
-            };
-            Loaded::Done(counts)
-        }
+    let z = judge(image)?;
+    if !within_limits(z) {
+        return Err(Refusal::OverLimit);
     }
+    let fits = has_room(
+        z,
+        constants,
+        structs,
+        functions,
+        text,
+        main,
+        main_places,
+        other,
+        other_places,
+    );
+    if !fits {
+        return Err(Refusal::StoreFull);
+    }
+    loading::load_all(
+        image,
+        constants,
+        structs,
+        functions,
+        text,
+        main,
+        main_places,
+        other,
+        other_places,
+    );
+    Ok(Counts {
+        constants: z.constants,
+        structs: z.structs,
+        functions: z.functions,
+        text: z.text,
+        current: 0,
+    })
 }

@@ -4,13 +4,10 @@ ghost use Rattle.image_judge.specs.Links.{payload_at};
 ghost use Rattle.model.specs.Stores.{stores_of as lent};
 ghost use Rattle.image_load.specs.Fills.{ConstantsFit, ConstantsFilled, StructsFit, StructsFilled, RunsFit, RunsFilled, FunctionFits, FunctionFilled, OthersFit, OthersFilled, FunctionsFit, FunctionsFilled, Fits, LaidPost};
 
-use image_judge::{
-    Begun, Entry, Item, NextRun, Span, Text, read_constant, read_head, read_run, read_text, wide,
-};
+use image_judge::{Entry, Span, read_constant, read_head, read_run, read_text, wide};
 use layout::ordered::{put_struct, spot};
 use layout::reads::pack;
 use layout::writes::{put_bytes, put_places, put_words};
-use number::Num;
 
 // Where the next item begins, and where the next text goes.
 #[derive(Clone, Copy)]
@@ -35,15 +32,14 @@ fn load_constants(image: &[u8], at: usize, constants: &mut [u64], text: &mut [u8
     requires { ConstantsFit image.now at constants.old text.old }
     ensures { ConstantsFilled image.now at constants.old text.old result constants.new text.new }
 {
-    let Num::Number(n, first) = number::read_number(image, at) else {
+    let Some((n, first)) = number::read_number(image, at) else {
         return Filled { next: at, text: 0 };
     };
     let count = wide(n);
     let mut next = first;
     let mut t: usize = 0;
-    let mut i: usize = 0;
-    while i < count {
-        let Item::Is(p) = read_constant(image, next) else {
+    for i in 0..count {
+        let Ok(p) = read_constant(image, next) else {
             return Filled { next, text: t };
         };
         let word = payload(p, t);
@@ -51,9 +47,8 @@ fn load_constants(image: &[u8], at: usize, constants: &mut [u64], text: &mut [u8
         let from = p.from;
         let end = from + p.len;
         put_bytes(text, t, &image[from..end]);
-        t = t + p.len;
+        t += p.len;
         next = p.next;
-        i = i + 1;
     }
     Filled { next, text: t }
 }
@@ -63,15 +58,14 @@ fn load_structs(image: &[u8], at: usize, structs: &mut [u64], text: &mut [u8], t
     requires { StructsFit image.now at t0 structs.old text.old }
     ensures { StructsFilled image.now at t0 structs.old text.old result structs.new text.new }
 {
-    let Num::Number(n, first) = number::read_number(image, at) else {
+    let Some((n, first)) = number::read_number(image, at) else {
         return Filled { next: at, text: t0 };
     };
     let count = wide(n);
     let mut next = first;
     let mut t = t0;
-    let mut i: usize = 0;
-    while i < count {
-        let Text::At(here, len) = read_text(image, next) else {
+    for i in 0..count {
+        let Some((here, len)) = read_text(image, next) else {
             return Filled { next, text: t };
         };
         let behind = here + len;
@@ -79,9 +73,8 @@ fn load_structs(image: &[u8], at: usize, structs: &mut [u64], text: &mut [u8], t
         put_bytes(text, t, &image[here..behind]);
         let word = pack(t, len);
         put_struct(structs, place, i, word);
-        t = t + len;
+        t += len;
         next = behind;
-        i = i + 1;
     }
     Filled { next, text: t }
 }
@@ -94,14 +87,15 @@ fn load_runs(image: &[u8], at: usize, size: usize, places: &mut [u32], c: usize)
     let mut next = at;
     let mut left = size;
     let mut before: usize = 4294967296;
+    // Each run says how many bytes it covers, so this is no `for`.
     while 0 < left {
-        let NextRun::Is(p) = read_run(image, next, left, before) else {
+        let Ok(p) = read_run(image, next, left, before) else {
             return next;
         };
         let to = c + (size - left);
         put_places(places, to, p.bytes, p.place);
         before = wide(p.place);
-        left = left - p.bytes;
+        left -= p.bytes;
         next = p.next;
     }
     next
@@ -123,7 +117,7 @@ fn load_function(
     requires { FunctionFits first image.now at i t c functions.old text.old code.old places.old }
     ensures { FunctionFilled first image.now at i t c functions.old text.old code.old places.old result functions.new text.new code.new places.new }
 {
-    let Begun::Is(h) = read_head(image, at, first) else {
+    let Ok(h) = read_head(image, at, first) else {
         return Span {
             next: at,
             name: 0,
@@ -166,16 +160,14 @@ fn load_others(
     let mut next = at;
     let mut t = t0;
     let mut c: usize = 0;
-    let mut i: usize = 0;
-    while i < n {
+    for i in 0..n {
         let number = i + 1;
         let f = load_function(
             image, next, false, functions, number, text, t, code, places, c,
         );
-        t = t + f.name;
-        c = c + f.code;
+        t += f.name;
+        c += f.code;
         next = f.next;
-        i = number;
     }
 }
 
@@ -194,7 +186,7 @@ fn load_functions(
     requires { FunctionsFit image.now at t functions.old text.old main.old main_places.old other.old other_places.old }
     ensures { FunctionsFilled image.now at t functions.old text.old main.old main_places.old other.old other_places.old functions.new text.new main.new main_places.new other.new other_places.new }
 {
-    let Num::Number(n, first) = number::read_number(image, at) else {
+    let Some((n, first)) = number::read_number(image, at) else {
         return;
     };
     let count = wide(n);

@@ -1,5 +1,5 @@
 -- A program in good order has an image, and it is not too long to count.
-use Rattle.std.specs.Prelude.{if◌then◌else◌}
+use Rattle.std.specs.Prelude.{if◌then◌else◌, Err, Ok, Result}
 use mathlib.Core.Path.{◌≡◌, refl, sym, ap, subst, ◌∙◌}
 use mathlib.Core.Bool.{Bool, true, false, not}
 use mathlib.Core.List.{List, [], ◌∷◌, ◌++◌, append_assoc}
@@ -17,8 +17,6 @@ use Rattle.model.specs.Stores.{Stores, start, size, part, struct_word, name_word
 use Rattle.model.specs.Orders.{inside_text, constant_ok, code_start, main_taken, other_taken, inside_codes, program_ok}
 use Rattle.model.specs.Loading.{OutRes, put_out, save_of}
 use Rattle.model.specs.declared.Counts.{Counts}
-use Rattle.model.specs.declared.Told.{Told}
-use Rattle.model.specs.declared.Told.TheVariants as t
 use Rattle.layout.proofs.Parts.{one_word}
 use Rattle.laws_programs.proofs.Known.{Limited, limited, text_inside, constants_known, structs_known, Known as KnownFunction, function_known, ascending}
 use Rattle.laws_programs.proofs.Keeping.{Good, good_of}
@@ -27,6 +25,8 @@ use Rattle.image_save.specs.Puts.{Put, Near, Known, ConstantsPut, StructsPut, fu
 use Rattle.layout.proofs.Bools.{either_way, both_true}
 use Rattle.laws_images.proofs.Formats.{bytes_length}
 use Rattle.image_save.proofs.Putting.{digits_most, put_as, Split, front, back, both, Putting, putting_start, count_split, one_split, each_near, each_step, each_end, constants_open, constants_shut, structs_open, structs_shut}
+use Rattle.model.specs.declared.Refusal.{Refusal}
+use Rattle.model.specs.declared.Refusal.TheVariants as why
 
 -- ---- how long a piece can be
 
@@ -294,9 +294,6 @@ module _ (at₀ n : ℕ) (fs t mn mp ot op : List ℕ) (h : FunctionsPut at₀ n
       functions_start = record { some = omega arith; putting = putting_start _ out₂ at₂ }
 
       module _ (out : List ℕ) (at j : ℕ) (r : PuttingFunctions n fs t mn mp ot op out₂ at₂ out at j) where
-        pub functions_kept : length out ≡ length out₀
-        functions_kept = r.putting.put.kept ∙ q.kept ∙ p.kept
-
         pub function_puts : j < n → FunctionPuts at fs j t ot op
         function_puts l = record {
           lies = h.others j r.some l;
@@ -318,9 +315,9 @@ module _ (at₀ n : ℕ) (fs t mn mp ot op : List ℕ) (h : FunctionsPut at₀ n
 -- ---- saving
 
 module _ (c : Counts) (x : Stores) (out : List ℕ) (ok : Bool) (e : ok ≡ program_ok c x) where
-  pub save_19 : not ok ≡ true → record { answer = t.Refused 19; out = out } ≡ save_of c x out
+  pub save_unordered : not ok ≡ true → record { answer = Err why.NotInOrder; out = out } ≡ save_of c x out
   unfolding save_of
-  save_19 h = rw (sym e ∙ not-true _ h)
+  save_unordered h = rw (sym e ∙ not-true _ h)
 
   module _ (h : not ok ≡ false) where
     pub in_order : program_ok c x ≡ true
@@ -341,19 +338,19 @@ module _ (c : Counts) (x : Stores) (out : List ℕ) (ok : Bool) (e : ok ≡ prog
       room_is : r ≡ places 1 out
       room_is = er ∙ ap (places 1) unchanged
 
-      pub save_17 : r < k → record { answer = t.Refused 17; out = o2 ++ out } ≡ save_of c x out
+      pub save_short : r < k → record { answer = Err why.ResultTooShort; out = o2 ++ out } ≡ save_of c x out
       unfolding save_of put_out
-      save_17 l = let a = length_is in let b = room_is in
-          rw (in_order, lt-leb (length (image_of (program_in c x))) (places 1 out) (omega arith)) (ap (λ (y : List ℕ). record { answer = t.Refused 17; out = y }) unchanged)
+      save_short l = let a = length_is in let b = room_is in
+          rw (in_order, lt-leb (length (image_of (program_in c x))) (places 1 out) (omega arith)) (ap (λ (y : List ℕ). record { answer = Err why.ResultTooShort; out = y }) unchanged)
 
-      pub save_done : k ≤ r → (out' : List ℕ) (j : ℕ) → Put (image_of (program_in c x)) (o2 ++ out) 0 out' j → record { answer = t.Number k; out = out' } ≡ save_of c x out
+      pub save_done : k ≤ r → (out' : List ℕ) (j : ℕ) → Put (image_of (program_in c x)) (o2 ++ out) 0 out' j → record { answer = Ok k; out = out' } ≡ save_of c x out
       unfolding save_of put_out
       save_done l out' j w =
           let a = length_is in let b = room_is in
           let q : Put (image_of (program_in c x)) out 0 out' j = subst (λ (y : List ℕ). Put (image_of (program_in c x)) y 0 out' j) unchanged w in
           let f : length (image_of (program_in c x)) ≤ places 1 out = omega arith in
           let g = (one_word (length (image_of (program_in c x))) out f).0 in
-          rw (in_order, le-leb (length (image_of (program_in c x))) (places 1 out) f) (same_out (ap t.Number a) q.stored)
+          rw (in_order, le-leb (length (image_of (program_in c x))) (places 1 out) f) (same_out (ap Ok a) q.stored)
         where
-          same_out : {a b : Told} {u v : List ℕ} → a ≡ b → u ≡ v → ◌≡◌ {A = OutRes} (record { answer = a; out = u }) (record { answer = b; out = v })
+          same_out : {a b : Result ℕ Refusal} {u v : List ℕ} → a ≡ b → u ≡ v → ◌≡◌ {A = OutRes} (record { answer = a; out = u }) (record { answer = b; out = v })
           same_out e f = rw (e, f)

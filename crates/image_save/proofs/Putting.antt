@@ -1,13 +1,21 @@
 -- The writing of an image, piece behind piece.
+use Rattle.std.specs.Int.{w64, to_le_bytes, bytes_low_first}
+use Rattle.std.specs.List.{position, position_or_len}
+use Rattle.std.specs.Option.{unwrap_or}
+use Rattle.std.proofs.Common.{Option}
+use Rattle.std.proofs.lemmas.List.{get_or-take, get_or-drop}
+use Rattle.std.proofs.lemmas.List.Sums.{prefix_len-le-length, fails_before_first, passes_at_first}
+use mathlib.Core.Bool.{Bool, not}
 use mathlib.Core.Path.{◌≡◌, refl, sym, ap, subst, ◌∙◌}
 use mathlib.Core.List.{List, [], ◌∷◌, ◌++◌, append_assoc, append-nil}
 use Prim.Native.Nat.{ℕ, zero, suc, ◌+◌, ◌-◌, ◌/◌, ◌%◌, ◌<◌, ◌≤◌, ◌^◌}
 use native.Mathlib.Omega.{arith}
 use native.Mathlib.Numerals.{add-one}
-use lib.Dec.{ltb}
-use lib.ListN.{length, get_or, set, take, length-append}
+use native.Mathlib.Nat.{pos_of_ne-zero, pow-suc, div-div-eq-div-mul}
+use lib.Dec.{eqb, ltb}
+use lib.ListN.{length, get_or, take, drop, length-append, length-drop}
 use lib.Seq.{take_at, length-take-le}
-use borrow.Author.Tests.{ltb-true, ltb-false}
+use borrow.Author.Tests.{ltb-false, eqb-true, eqb-false, not-true, not-false}
 use Rattle.model.specs.Numbers.{digits, groups_of}
 use Rattle.model.specs.Values.{kind_at, payload_at}
 use Rattle.model.specs.Programs.{Constant}
@@ -18,7 +26,7 @@ use Rattle.number.specs.Links.{WritePost}
 use Rattle.image_save.specs.Puts.{Put, Near, TextPuts, Known, ConstantPuts, ConstantsPut, StructsPut, SameRun}
 use Rattle.layout.proofs.Bools.{either_way}
 use Rattle.layout.proofs.Writing.{length_written}
-use Rattle.laws_images.proofs.Written.{written_none, written_one, written_past, written_first, more_written, kept_length}
+use Rattle.laws_images.proofs.Written.{written_none, written_past, written_first, more_written, kept_length}
 use Rattle.laws_images.proofs.Held.{written_front}
 
 -- ---- one piece
@@ -117,16 +125,6 @@ module _ (v : ℕ) {five bytes : List ℕ} {k : ℕ} (n : length five ≡ 5) (w 
   pub number_put : {out : List ℕ} {at : ℕ} {out' : List ℕ} {r : ℕ} → Put (take k bytes) out at out' r → Put (digits v) out at out' r
   number_put p = rw number_bytes at p
 
-pub byte_fits : (at b : ℕ) → Near at (b ∷ []) → at + 1 < 2 ^ 62
-unfolding Near
-byte_fits at b h = h
-
-pub byte_put : (out : List ℕ) (at b : ℕ) → Put (b ∷ []) out at (set out at b) (at + 1)
-byte_put out at b = put_is (b ∷ []) out (set out at b) at (at + 1) refl (written_one out at b)
-
-pub byte_past : (out : List ℕ) (at b : ℕ) → length out < at + 1 → Put (b ∷ []) out at out (at + 1)
-byte_past out at b h = put_is (b ∷ []) out out at (at + 1) refl (written_past out at (b ∷ []) (omega arith))
-
 pub part_put : (out out' bytes : List ℕ) (at : ℕ) → out' ≡ written out at bytes → Put bytes out at out' (at + length bytes)
 part_put out out' bytes at e = put_is bytes out out' at (at + length bytes) refl e
 
@@ -150,23 +148,16 @@ text_split t = record { split = refl }
 
 -- ---- eight bytes
 
-pub word_start : (out : List ℕ) (at w : ℕ) → Putting (bytes_of 8 w) out at out at (bytes_of (8 - 0) w)
-word_start out at w = putting_start (bytes_of 8 w) out at
-
-bytes_split : (k w : ℕ) → k < 8 → bytes_of (8 - k) w ≡ (w % 256 ∷ []) ++ bytes_of (8 - (k + 1)) (w / 256)
+bytes_from : (i k w : ℕ) → bytes_low_first (suc i) k w ≡ bytes_of k (w / 256 ^ suc i)
 unfolding bytes_of
-bytes_split k w l = let z : 8 - k ≡ suc (8 - (k + 1)) = omega arith in ap (λ (j : ℕ). bytes_of j w) z
+bytes_from i zero w = refl
+bytes_from i (suc k) w =
+    let z : w / 256 ^ suc (suc i) ≡ w / 256 ^ suc i / 256 = ap (λ (d : ℕ). w / d) (pow-suc 256 (suc i)) ∙ sym (div-div-eq-div-mul w (256 ^ suc i) 256) in
+    ap (λ (l : List ℕ). w / 256 ^ suc i % 256 ∷ l) (bytes_from (suc i) k w ∙ ap (bytes_of k) z)
 
-module _ (out₀ : List ℕ) (at₀ w : ℕ) (out : List ℕ) (at rest k : ℕ) (p : Putting (bytes_of 8 w) out₀ at₀ out at (bytes_of (8 - k) rest)) where
-  pub word_near : Near at₀ (bytes_of 8 w) → k < 8 → Near at (rest % 256 ∷ [])
-  word_near h l = near_front at _ (rest % 256 ∷ []) _ (bytes_split k rest l) (putting_near _ out₀ at₀ out at _ p h)
-
-  pub word_step : k < 8 → (out' : List ℕ) (at' : ℕ) → Put (rest % 256 ∷ []) out at out' at' → Putting (bytes_of 8 w) out₀ at₀ out' at' (bytes_of (8 - (k + 1)) (rest / 256))
-  word_step l out' at' q = putting_step _ out₀ at₀ out at _ p (rest % 256 ∷ []) (bytes_of (8 - (k + 1)) (rest / 256)) (bytes_split k rest l) out' at' q
-
-  pub word_end : 8 ≤ k → Put (bytes_of 8 w) out₀ at₀ out at
-  unfolding bytes_of
-  word_end l = let z : 8 - k ≡ 0 = omega arith in putting_end _ out₀ at₀ out at _ p (ap (λ (j : ℕ). bytes_of j rest) z)
+pub word_bytes : (w : ℕ) → to_le_bytes w64 w ≡ bytes_of 8 w
+unfolding bytes_of
+word_bytes w = ap (λ (l : List ℕ). w % 256 ∷ l) (bytes_from 0 7 w)
 
 -- ---- constants
 
@@ -317,9 +308,6 @@ module _ (at₀ k : ℕ) (cs t : List ℕ) (c : ConstantsPut at₀ k cs t) where
     constants_start = putting_start _ out₁ at₁
 
     module _ (out : List ℕ) (at j : ℕ) (p : PuttingConstants k cs t out₁ at₁ out at j) where
-      pub constants_kept : length out ≡ length out₀
-      constants_kept = p.put.kept ∙ q.kept
-
       pub constants_each : j < k → (x y : ℕ) → x ≡ kind_at cs j → y ≡ payload_at cs j → ConstantPuts at t x y
       constants_each l x y ex ey = subst (λ (z : ℕ). ConstantPuts at t z y) (sym ex) (subst (λ (z : ℕ). ConstantPuts at t (kind_at cs j) z) (sym ey)
           (record { known = c.each j l; near = each_near constant_image constants_all constants_one (constants_open cs t) (constants_shut cs t) k 0 out₁ at₁ constants_rest out at j p l }))
@@ -357,9 +345,6 @@ module _ (at₀ k : ℕ) (ss t : List ℕ) (c : StructsPut at₀ k ss t) where
     structs_start = putting_start _ out₁ at₁
 
     module _ (out : List ℕ) (at j : ℕ) (p : PuttingStructs k ss t out₁ at₁ out at j) where
-      pub structs_kept : length out ≡ length out₀
-      structs_kept = p.put.kept ∙ q.kept
-
       pub structs_each : j < k → (w : ℕ) → w ≡ kind_at ss j → (x : List ℕ) → x ≡ part t w → TextPuts at x
       unfolding struct_word
       structs_each l w ew x ex = subst (TextPuts at) (sym (ex ∙ ap (part t) ew))
@@ -377,34 +362,43 @@ module _ (at₀ k : ℕ) (ss t : List ℕ) (c : StructsPut at₀ k ss t) where
 
 -- ---- runs
 
--- at the head of `run_length`'s loop
-pub record Same (places : List ℕ) (i to k : ℕ) : Type 0 where
-  pub ahead : i < k
-  pub most : k ≤ to
-  pub same : (j : ℕ) → i ≤ j → j < k → get_or places j 0 ≡ get_or places i 0
-
+-- the places from i on, before `to`: those before the first that is another are a run
 module _ (places : List ℕ) (i to : ℕ) (h : (i < to) × (to ≤ length places)) where
-  pub same_start : Same places i to (i + 1)
-  same_start = record { ahead = omega arith; most = let a = h.0 in omega arith; same = λ j a b. let e : j ≡ i = omega arith in rw e }
+  abbrev another : ℕ → Bool
+  another x = not (eqb x (get_or places i 0))
 
-  module _ (k : ℕ) (s : Same places i to k) where
-    run_of : (i + (k - i) < to → get_or places (i + (k - i)) 0 ≡ get_or places i 0 → ⊥) → SameRun places i to (k - i)
-    run_of f = let a = s.ahead in let b = s.most in record {
-      some = omega arith;
-      most = omega arith;
-      last = f;
-      same = λ j l. s.same (i + j) (omega arith) (omega arith);
-    }
+  abbrev rest_of : List ℕ
+  rest_of = take (to - i) (drop i places)
 
-    pub same_last : (get_or places k 0 ≡ get_or places i 0 → ⊥) → SameRun places i to (k - i)
-    same_last d = let a = s.ahead in let z : i + (k - i) ≡ k = omega arith in run_of (λ l e. d (ap (λ (j : ℕ). get_or places j 0) (sym z) ∙ e))
+  abbrev run_to : ℕ
+  run_to = position_or_len another rest_of
 
-    pub same_end : to ≤ k → SameRun places i to (k - i)
-    same_end l = let a = s.ahead in run_of (λ m e. omega arith)
+  rest_length : length rest_of ≡ to - i
+  rest_length = let z = length-drop i places in let l = h.1 in length-take-le (to - i) (drop i places) (omega arith)
 
-    pub same_step : k < to → get_or places k 0 ≡ get_or places i 0 → Same places i to (k + 1)
-    same_step l e = let a = s.ahead in record {
-      ahead = omega arith;
-      most = omega arith;
-      same = λ j x y. either_way (ltb j k) (λ t. s.same j x (ltb-true j k t)) (λ t. let m : j ≡ k = (let z = ltb-false j k t in omega arith) in ap (λ (z : ℕ). get_or places z 0) m ∙ e);
-    }
+  rest_at : (k : ℕ) → k < to - i → get_or rest_of k 0 ≡ get_or places (i + k) 0
+  rest_at k l = get_or-take (to - i) (drop i places) k 0 l ∙ get_or-drop i places k 0
+
+  last_one : i + run_to < to → get_or places (i + run_to) 0 ≡ get_or places i 0 → ⊥
+  last_one l e =
+      let n = rest_length in
+      eqb-false _ _ (not-true _ (passes_at_first another rest_of 0 (omega arith))) (rest_at run_to (omega arith) ∙ e)
+
+  run_here : SameRun places i to run_to
+  run_here =
+      let n = rest_length in let b : run_to ≤ length rest_of = prefix_len-le-length _ rest_of in let l = h.0 in
+      record {
+        some = pos_of_ne-zero (λ (z : run_to ≡ 0). let y : i + run_to ≡ i = omega arith in last_one (omega arith) (ap (λ (k : ℕ). get_or places k 0) y));
+        most = omega arith;
+        same = λ k m. sym (rest_at k (omega arith)) ∙ eqb-true _ _ (not-false _ (fails_before_first another rest_of k 0 m));
+        last = last_one;
+      }
+
+  pub run_found : (o : Option ℕ) (r : ℕ) → o ≡ position another rest_of → r ≡ unwrap_or o (to - i) → SameRun places i to r
+  run_found o r eo er = subst (SameRun places i to) (sym is) run_here
+    where
+      is : r ≡ run_to
+      is = either_way (ltb run_to (length rest_of)) (λ x. er ∙ rw (eo, x))
+          (λ x.
+          let n = rest_length in let b : run_to ≤ length rest_of = prefix_len-le-length _ rest_of in let y = ltb-false _ _ x in
+          let z : to - i ≡ run_to = omega arith in er ∙ rw (eo, x) z)

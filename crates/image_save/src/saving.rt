@@ -1,13 +1,14 @@
 // Saving: the image of a program, written into a lent slice as far as it fits. With an empty slice it is only counted.
+ghost use Rattle.layout.specs.Lent.{stores_in};
 ghost use Rattle.std.specs.Prelude.{◌≡◌, true, [], ◌∷◌, ◌-◌, ◌≤◌, ◌<◌, length};
 ghost use Rattle.model.specs.Numbers.{digits};
 ghost use Rattle.model.specs.Values.{text_at};
 ghost use Rattle.model.specs.Images.{joined, counted, bytes_of, text_image, constant_image, run_image, runs_of, function_image, image_of};
 ghost use Rattle.model.specs.Stores.{constant_in, constants_from, structs_from, program_in};
 ghost use Rattle.model.specs.Orders.{program_ok};
-ghost use Rattle.model.specs.Stores.{stores_of as lent};
 ghost use Rattle.image_save.specs.Puts.{Put, Near, TextPuts, ConstantPuts, ConstantsPut, StructsPut, SameRun, RunsPut, function_here, FunctionPuts, functions_here, FunctionsPut};
 
+use layout::lent::ProgramStores;
 use layout::reads::{first, part, second, size_of, start_of};
 use layout::writes::put_bytes;
 use model::Counts;
@@ -20,19 +21,6 @@ fn put_number(out: &mut [u8], at: usize, n: u32) -> usize
     let mut bytes = [0u8; 5];
     let len = number::write_number(&mut bytes, 0, n);
     put_part(out, at, &bytes[..len])
-}
-
-// A byte.
-fn put_byte(out: &mut [u8], at: usize, b: u8) -> usize
-    requires { Near at (b ∷ []) }
-    ensures { Put (b ∷ []) out.old at out.new result }
-{
-    let next = at + 1;
-    if next <= out.len() {
-        out[at] = b;
-        return next;
-    }
-    next
 }
 
 // Bytes.
@@ -68,16 +56,7 @@ fn put_word(out: &mut [u8], at: usize, w: u64) -> usize
     requires { Near at (bytes_of 8 w) }
     ensures { Put (bytes_of 8 w) out.old at out.new result }
 {
-    let mut next = at;
-    let mut rest = w;
-    let mut i: usize = 0;
-    while i < 8 {
-        let b = (rest % 256) as u8;
-        next = put_byte(out, next, b);
-        rest = rest / 256;
-        i = i + 1;
-    }
-    next
+    put_part(out, at, &w.to_le_bytes())
 }
 
 // The constant that a kind and a payload stand for.
@@ -105,12 +84,10 @@ fn put_constants(out: &mut [u8], at: usize, n: usize, constants: &[u64], text: &
 {
     let count = n as u32;
     let mut next = put_number(out, at, count);
-    let mut i: usize = 0;
-    while i < n {
+    for i in 0..n {
         let kind = first(constants, i);
         let payload = second(constants, i);
         next = put_constant(out, next, kind, payload, text);
-        i = i + 1;
     }
     next
 }
@@ -122,12 +99,10 @@ fn put_structs(out: &mut [u8], at: usize, n: usize, structs: &[u64], text: &[u8]
 {
     let count = n as u32;
     let mut next = put_number(out, at, count);
-    let mut i: usize = 0;
-    while i < n {
+    for i in 0..n {
         let w = first(structs, i);
         let name = part(text, w);
         next = put_text(out, next, name);
-        i = i + 1;
     }
     next
 }
@@ -138,14 +113,10 @@ fn run_length(places: &[u32], i: usize, to: usize) -> usize
     ensures { SameRun places.now i to result }
 {
     let place = places[i];
-    let mut k = i + 1;
-    while k < to {
-        if places[k] != place {
-            return k - i;
-        }
-        k = k + 1;
-    }
-    k - i
+    places[i..to]
+        .iter()
+        .position(|p| *p != place)
+        .unwrap_or(to - i)
 }
 
 // The runs of the places from `from` on, before `to`.
@@ -155,13 +126,14 @@ fn put_runs(out: &mut [u8], at: usize, places: &[u32], from: usize, to: usize) -
 {
     let mut next = at;
     let mut i = from;
+    // Each step is as long as its run, so this is no `for`.
     while i < to {
         let n = run_length(places, i, to);
         let bytes = n as u32;
         let mid = put_number(out, next, bytes);
         let place = places[i];
         next = put_number(out, mid, place);
-        i = i + n;
+        i += n;
     }
     next
 }
@@ -193,58 +165,46 @@ fn put_function(
 }
 
 // All functions: main, then the others.
-fn put_functions(
-    out: &mut [u8],
-    at: usize,
-    n: usize,
-    functions: &[u64],
-    text: &[u8],
-    main: &[u8],
-    main_places: &[u32],
-    other: &[u8],
-    other_places: &[u32],
-) -> usize
-    requires { FunctionsPut at n functions.now text.now main.now main_places.now other.now other_places.now }
-    ensures { Put (counted function_image (functions_here n 0 functions.now text.now main.now main_places.now other.now other_places.now)) out.old at out.new result }
+fn put_functions(out: &mut [u8], at: usize, n: usize, stores: &ProgramStores) -> usize
+    requires { FunctionsPut at n stores.now.functions.now stores.now.text.now stores.now.main.now stores.now.main_places.now stores.now.other.now stores.now.other_places.now }
+    ensures { Put (counted function_image (functions_here n 0 stores.now.functions.now stores.now.text.now stores.now.main.now stores.now.main_places.now stores.now.other.now stores.now.other_places.now)) out.old at out.new result }
 {
+    let ProgramStores {
+        functions,
+        text,
+        ..
+    } = *stores;
     let count = n as u32;
     let behind = put_number(out, at, count);
-    let mut next = put_function(out, behind, functions, 0, text, main, main_places);
-    let mut i: usize = 1;
-    while i < n {
-        next = put_function(out, next, functions, i, text, other, other_places);
-        i = i + 1;
+    let mut next = put_function(
+        out,
+        behind,
+        functions,
+        0,
+        text,
+        stores.main,
+        stores.main_places,
+    );
+    for i in 1..n {
+        next = put_function(
+            out,
+            next,
+            functions,
+            i,
+            text,
+            stores.other,
+            stores.other_places,
+        );
     }
     next
 }
 
 // The image of a program that is in good order.
-pub fn put_image(
-    out: &mut [u8],
-    c: Counts,
-    constants: &[u64],
-    structs: &[u64],
-    functions: &[u64],
-    text: &[u8],
-    main: &[u8],
-    main_places: &[u32],
-    other: &[u8],
-    other_places: &[u32],
-) -> usize
-    requires { program_ok c (lent constants.now structs.now functions.now text.now main.now main_places.now other.now other_places.now) ≡ true }
-    ensures { Put (image_of (program_in c (lent constants.now structs.now functions.now text.now main.now main_places.now other.now other_places.now))) out.old 0 out.new result }
+pub fn put_image(out: &mut [u8], c: Counts, stores: &ProgramStores) -> usize
+    requires { program_ok c (stores_in stores.now) ≡ true }
+    ensures { Put (image_of (program_in c (stores_in stores.now))) out.old 0 out.new result }
 {
-    let a = put_constants(out, 0, c.constants, constants, text);
-    let b = put_structs(out, a, c.structs, structs, text);
-    put_functions(
-        out,
-        b,
-        c.functions,
-        functions,
-        text,
-        main,
-        main_places,
-        other,
-        other_places,
-    )
+    let a = put_constants(out, 0, c.constants, stores.constants, stores.text);
+    let b = put_structs(out, a, c.structs, stores.structs, stores.text);
+    put_functions(out, b, c.functions, stores)
 }

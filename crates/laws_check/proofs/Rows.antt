@@ -1,9 +1,9 @@
 -- THE ROW IS TIED TO THE STEP: opcode by opcode, over the whole table.
-use Rattle.std.specs.Prelude.{if◌then◌else◌}
+use Rattle.std.specs.Prelude.{if◌then◌else◌, Err, None, Ok, Option, Some}
 use mathlib.Core.Path.{◌≡◌, refl}
 use mathlib.Core.Bool.{Bool, true, false, not, ◌||◌, ◌&&◌, true≢false}
 use mathlib.Core.List.{List, [], ◌∷◌}
-use mathlib.Core.Option.{Option, none, some}
+use mathlib.Core.Option.{Option as Maybe, none, some}
 use Prim.Native.Nat.{ℕ, zero, suc, ◌+◌, ◌-◌, ◌≤◌, ◌<◌, min}
 use native.Mathlib.Omega.{arith}
 use borrow.Author.Tests.{ltb-true, ltb-false, eqb-true}
@@ -21,10 +21,7 @@ use Rattle.model.specs.declared.Decoded.{Decoded}
 use Rattle.model.specs.declared.Decoded.TheVariants as d
 use Rattle.model.specs.declared.Value.{Value}
 use Rattle.model.specs.declared.Value.TheVariants as v
-use Rattle.model.specs.declared.Last.{Last}
-use Rattle.model.specs.declared.Last.TheVariants.{Nothing, Is}
 use Rattle.model.specs.declared.Fault.TheVariants as f
-use Rattle.model.specs.declared.Found.TheVariants as g
 use Rattle.model.specs.declared.Frame.{Frame}
 use Rattle.model.specs.Basics.{ascii}
 use Rattle.model.specs.Opcodes.{Opcode, op, first_names, as_count, popped, opcodes, opcode_at}
@@ -73,7 +70,7 @@ module _ (k a b : ℕ) (w : World) (s : State) where
   boolean_tied gone vs e l rest = pop_tied gone vs e l (λ x r z. if_boolean_each {B = Unit} (λ y u. T y) x {k' = λ y. tt} {x' = tt} (λ y q. rest y r z) (faults tt))
 
   -- what is found or out of range
-  found_tied : (c : Bool) (x : Value) (next : Value → Outcome) → (c ≡ false → Missing k a b w s) → T (next x) → T (on_found (if c then g.Got x else g.Bad f.OutOfRange) s next)
+  found_tied : (c : Bool) (x : Value) (next : Value → Outcome) → (c ≡ false → Missing k a b w s) → T (next x) → T (on_found (if c then Ok x else Err f.OutOfRange) s next)
   unfolding on_found
   found_tied true x next p q = q
   found_tied false x next p q = faults (p refl)
@@ -119,10 +116,10 @@ module _ (k a b : ℕ) (w : World) (s : State) where
     unfolding slot_step slot_of
     gets_tied place e q = found_tied (ltb place (length s.stack)) _ _ (λ z. q (ltb-false _ _ z)) (pushing_tied _ s (omega arith) (omega arith) refl refl)
 
-    last_tied : (x : Last) → i ≡ 0 → T (on_found (last_of x) s (λ y. pushing w y s))
+    last_tied : (x : Option Value) → i ≡ 0 → T (on_found (last_of x) s (λ y. pushing w y s))
     unfolding on_found last_of
-    last_tied Nothing e = faults tt
-    last_tied (Is x) e = pushing_tied x s (omega arith) (omega arith) refl refl
+    last_tied None e = faults tt
+    last_tied (Some x) e = pushing_tied x s (omega arith) (omega arith) refl refl
 
   -- one value is popped, or two, and one pushed
   module _ (row : Plain k a b 1 1) where
@@ -219,7 +216,7 @@ module _ (k a b : ℕ) (w : World) (s : State) where
   call_tied e names p z =
       if_tied (ltb a (length w.functions)) (λ q. enter_tied a b s.stack p (omega arith) (calls e)) (λ q. faults {n = f.OutOfRange} (function names (ltb-false _ _ q)))
 
-  named_tied : (vs : List Value) (x : Option ℕ) → k ≡ call_callable → popped (opcode_at k) a b ≡ (opcode_at k).pops + a → length vs + (opcode_at k).pops ≡ length s.stack
+  named_tied : (vs : List Value) (x : Maybe ℕ) → k ≡ call_callable → popped (opcode_at k) a b ≡ (opcode_at k).pops + a → length vs + (opcode_at k).pops ≡ length s.stack
       → T (enter_named w a vs s x)
   unfolding enter_named
   named_tied vs none e p z = faults {n = f.NoFunction} e

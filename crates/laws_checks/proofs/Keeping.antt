@@ -1,9 +1,9 @@
 -- A step keeps the table: it faults exactly if a check of its opcode's row fails, and by the number of the first that does.
-use Rattle.std.specs.Prelude.{if◌then◌else◌}
+use Rattle.std.specs.Prelude.{if◌then◌else◌, Err, None, Ok, Option, Some}
 use mathlib.Core.Path.{◌≡◌, refl, sym, ap, subst, ◌∙◌}
 use mathlib.Core.Bool.{Bool, true, false, not, ◌&&◌, ◌||◌}
 use mathlib.Core.List.{List, [], ◌∷◌, reverse, reverse_aux}
-use mathlib.Core.Option.{Option, none, some}
+use mathlib.Core.Option.{Option as Maybe, none, some}
 use Prim.Native.Nat.{ℕ, suc, ◌+◌, max, ◌≤◌}
 use lib.Dec.{ltb, leb}
 use lib.ListN.{length, take, drop, length-reverse}
@@ -17,11 +17,8 @@ use Rattle.model.specs.declared.Op.{Op}
 use Rattle.model.specs.declared.Op.TheVariants as o
 use Rattle.model.specs.declared.Value.{Value}
 use Rattle.model.specs.declared.Value.TheVariants as v
-use Rattle.model.specs.declared.Last.{Last}
-use Rattle.model.specs.declared.Last.TheVariants.{Nothing, Is}
 use Rattle.model.specs.declared.Fault.{Fault}
 use Rattle.model.specs.declared.Fault.TheVariants as f
-use Rattle.model.specs.declared.Found.TheVariants as g
 use Rattle.model.specs.declared.Frame.{Frame}
 use Rattle.model.specs.Values.{if_scalar, if_boolean, if_reference, if_struct, fault_number, popping, popping_scalar, popping_boolean, text_at}
 use Rattle.model.specs.Scalars.{zero_divisor, result_of}
@@ -149,7 +146,7 @@ module _ (w : World) (s : State) where
   -- ---- what opcodes share
 
   found_or : (c : Check) (cs : List Check) (b : Bool) → passes w s c ≡ b → (x : Value) (n : Fault) → fault_number n ≡ number_of c → (k : Value → Outcome)
-      → Keeps (first_failed w s cs) (k x) → Keeps (first_failed w s (c ∷ cs)) (on_found (if b then g.Got x else g.Bad n) s k)
+      → Keeps (first_failed w s cs) (k x) → Keeps (first_failed w s (c ∷ cs)) (on_found (if b then Ok x else Err n) s k)
   unfolding on_found
   found_or c cs true e x n z k rest = passed w s c cs e (k x) rest
   found_or c cs false e x n z k rest = failed w s c cs e n s z
@@ -176,10 +173,10 @@ module _ (w : World) (s : State) where
   unfolding slot_step slot_of passes number_of fault_number
   gets i = found_or (slot_filled i) _ (ltb i (length s.stack)) refl _ f.OutOfRange refl _ (pushes 0 _ s refl)
 
-  last_or : (l : Last) → passes w s last_there ≡ is_there l → Keeps (first_failed w s (last_there ∷ place_free 0 ∷ [])) (on_found (last_of l) s (λ x. pushing w x s))
+  last_or : (l : Option Value) → passes w s last_there ≡ is_there l → Keeps (first_failed w s (last_there ∷ place_free 0 ∷ [])) (on_found (last_of l) s (λ x. pushing w x s))
   unfolding on_found last_of is_there number_of fault_number
-  last_or Nothing e = failed w s last_there _ e f.NoLastResult s refl
-  last_or (Is x) e = passed w s last_there _ e _ (pushes 0 x s refl)
+  last_or None e = failed w s last_there _ e f.NoLastResult s refl
+  last_or (Some x) e = passed w s last_there _ e _ (pushes 0 x s refl)
 
   negates : Keeps (first_failed w s (value_there 0 ∷ scalar_at 0 ∷ [])) (negate_step s)
   unfolding negate_step
@@ -245,7 +242,7 @@ module _ (w : World) (s : State) where
   unfolding call_step passes number_of fault_number
   calls i n = asked w s (function_known i) _ (ltb i (length w.functions)) refl _ (λ z. enters i n 0 s.stack refl) f.OutOfRange s refl
 
-  named_or : (n : ℕ) (vs : List Value) → vs ≡ drop 1 s.stack → (i : Option ℕ) → passes w s name_known ≡ is_found i
+  named_or : (n : ℕ) (vs : List Value) → vs ≡ drop 1 s.stack → (i : Maybe ℕ) → passes w s name_known ≡ is_found i
       → Keeps (first_failed w s (name_known ∷ arguments_there 1 n ∷ frame_free ∷ [])) (enter_named w n vs s i)
   unfolding enter_named is_found number_of fault_number
   named_or n vs ev none e = failed w s name_known _ e f.NoFunction s refl

@@ -1,14 +1,11 @@
 -- [step] What each opcode checks, in order, as a table. The checks of every opcode come first and stand in `step_of`: units, 1, 2, 3.
 -- "Number operands, pops from the top (4 before 5 at each), 7, field number, 14, argument count, zero divisor, 26, comparison units, 12, 11, frames, stack."
-use Rattle.std.specs.Prelude.{◌≡◌, Bool, true, false, not, ◌&&◌, List, [], ◌∷◌, ℕ, zero, suc, ◌+◌, ltb, leb, length, take, drop, if◌then◌else◌}
-use Rattle.std.proofs.Math.Option.{Option, none, some}
+use Rattle.std.specs.Prelude.{◌≡◌, Bool, true, false, not, ◌&&◌, List, [], ◌∷◌, ℕ, zero, suc, ◌+◌, ltb, leb, length, take, drop, if◌then◌else◌, None, Option, Some}
+use Rattle.std.proofs.Math.Option.{Option as Maybe, none, some}
 use Rattle.model.specs.declared.Arith.{Arith}
 use Rattle.model.specs.declared.Op.{Op}
 use Rattle.model.specs.declared.Op.TheVariants as o
 use Rattle.model.specs.declared.Value.{Value}
-use Rattle.model.specs.declared.Value.TheVariants as v
-use Rattle.model.specs.declared.Last.{Last}
-use Rattle.model.specs.declared.Last.TheVariants.{Nothing, Is}
 use Rattle.model.specs.Values.{if_scalar, if_boolean, if_reference, if_struct, fault_number, text_at}
 use Rattle.model.specs.Scalars.{zero_divisor, result_of}
 use Rattle.model.specs.Heap.{head_in, deepest}
@@ -103,11 +100,11 @@ nth i [] holds = false
 nth zero (v ∷ vs) holds = holds v
 nth (suc i) (v ∷ vs) holds = nth i vs holds
 
-unfoldable pub is_there : Last → Bool
-is_there Nothing = false
-is_there (Is v) = true
+unfoldable pub is_there : Option Value → Bool
+is_there None = false
+is_there (Some v) = true
 
-unfoldable pub is_found : Option ℕ → Bool
+unfoldable pub is_found : Maybe ℕ → Bool
 is_found none = false
 is_found (some i) = true
 
@@ -139,12 +136,12 @@ passes w s (place_free popped) = ltb (length (drop popped s.stack)) w.stack_room
 
 -- ---- what the table says of a step
 
-unfoldable pub first_failed : World → State → List Check → Option Check
+unfoldable pub first_failed : World → State → List Check → Maybe Check
 first_failed w s [] = none
 first_failed w s (c ∷ cs) = if passes w s c then first_failed w s cs else some c
 
 -- a step faults exactly if a check fails, and its number is that of the first that does; where that is units for the pairs (13) it is short
-unfoldable pub Keeps : Option Check → Outcome → Type 0
+unfoldable pub Keeps : Maybe Check → Outcome → Type 0
 Keeps none (went t) = Unit {0}
 Keeps none (returned v t) = Unit {0}
 Keeps none (faulted n t) = ⊥

@@ -8,24 +8,27 @@ use lib.Dec.{eqb, leb, ltb}
 use lib.ListN.{length}
 use Rattle.model.specs.declared.Decoded.{Decoded}
 use Rattle.model.specs.declared.Decoded.TheVariants as d
+use Rattle.model.specs.declared.Refusal.{Refusal}
+use Rattle.model.specs.declared.Refusal.TheVariants as why
+use Rattle.model.specs.Answers.{refusal_number}
 use Rattle.model.specs.Programs.{Function, Program, next_in}
 use Rattle.model.specs.Listings.{line_of, Listed, text, unlisted, in_front, known_then, opcode_then, line_then, lines_for, and_listed, listing_from, listing_of}
 
 unfoldable OneOrThree : Listed → Type 0
 OneOrThree (text bytes) = Unit
-OneOrThree (unlisted l n) = (eqb n 1 || eqb n 3) ≡ true
+OneOrThree (unlisted l e) = (eqb (refusal_number e) 1 || eqb (refusal_number e) 3) ≡ true
 
 front_so : (l : List ℕ) (x : Listed) → OneOrThree x → OneOrThree (in_front l x)
 unfolding in_front OneOrThree
 front_so l (text r) h = tt
-front_so l (unlisted r n) h = h
+front_so l (unlisted r e) h = h
 
 and_so : (x y : Listed) → OneOrThree x → OneOrThree y → OneOrThree (and_listed x y)
 unfolding and_listed OneOrThree
 and_so (text l) y h k = front_so l y k
-and_so (unlisted l n) y h k = h
+and_so (unlisted l e) y h k = h
 
-if_so : (b : Bool) (x : Listed) → OneOrThree x → OneOrThree (if b then x else unlisted [] 3)
+if_so : (b : Bool) (x : Listed) → OneOrThree x → OneOrThree (if b then x else unlisted [] why.CodeEnds)
 unfolding OneOrThree
 if_so true x h = h
 if_so false x h = refl
@@ -57,6 +60,6 @@ unfolding listing_from OneOrThree
 listing_so i [] = tt
 listing_so i (f ∷ fs) = front_so _ _ (and_so _ _ (lines_so (line_of f.code) f.code (length f.code) 0) (listing_so (suc i) fs))
 
-pub listing_numbers : (p : Program) (l : List ℕ) (n : ℕ) → listing_of p ≡ unlisted l n → (eqb n 1 || eqb n 3) ≡ true
+pub listing_numbers : (p : Program) (l : List ℕ) (e : Refusal) → listing_of p ≡ unlisted l e → (eqb (refusal_number e) 1 || eqb (refusal_number e) 3) ≡ true
 unfolding listing_of OneOrThree
-listing_numbers p l n e = let h : OneOrThree (unlisted l n) = rw e at (listing_so 0 p.functions) in h
+listing_numbers p l e is = let h : OneOrThree (unlisted l e) = rw is at (listing_so 0 p.functions) in h

@@ -3,13 +3,14 @@ use Rattle.std.specs.Prelude.{if◌then◌else◌}
 use mathlib.Core.Path.{◌≡◌, refl}
 use mathlib.Core.Bool.{Bool, true, false}
 use mathlib.Core.List.{List, [], ◌∷◌, ◌++◌}
-use Prim.Native.Nat.{ℕ, zero, suc, ◌+◌, ◌-◌, ◌≤◌}
+use Prim.Native.Nat.{ℕ, zero, suc, ◌≤◌}
 use lib.Dec.{leb, ltb}
 use lib.ListN.{length}
 use borrow.Author.Tests.{le-leb, ne_eqb}
 use Rattle.model.specs.declared.Op.{Op}
 use Rattle.model.specs.declared.Decoded.{Decoded}
 use Rattle.model.specs.declared.Decoded.TheVariants as d
+use Rattle.model.specs.declared.Refusal.TheVariants as why
 use Rattle.model.specs.Opcodes.{operands}
 use Rattle.model.specs.Images.{joined}
 use Rattle.model.specs.Programs.{Function, Program, behind, opcode_in, next_in, stands_for, stands}
@@ -20,17 +21,17 @@ use Rattle.laws_code.specs.Walk.{shown_code, shown_from, walked}
 -- if there is a text, it is t
 unfoldable pub Shows : List ℕ → Listed → Type 0
 Shows t (text l) = l ≡ t
-Shows t (unlisted l n) = Unit
+Shows t (unlisted l e) = Unit
 
 pub front_shows : (a t : List ℕ) (x : Listed) → Shows t x → Shows (a ++ t) (in_front a x)
 unfolding in_front Shows
 front_shows a t (text l) h = rw h
-front_shows a t (unlisted l n) h = tt
+front_shows a t (unlisted l e) h = tt
 
 pub and_shows : (a t : List ℕ) (x y : Listed) → Shows a x → Shows t y → Shows (a ++ t) (and_listed x y)
 unfolding and_listed Shows
 and_shows a t (text l) y h k = rw h (front_shows a t y k)
-and_shows a t (unlisted l n) y h k = tt
+and_shows a t (unlisted l e) y h k = tt
 
 -- ---- the lines of a code
 
@@ -39,7 +40,7 @@ module _ (line : ℕ → List ℕ) (code : List ℕ) where
     abbrev onward : List ℕ
     onward = line i ++ joined line (stands_for n code (next_in code i))
 
-    if_shows : (b : Bool) (x : Listed) → Shows onward x → Shows onward (if b then x else unlisted [] 3)
+    if_shows : (b : Bool) (x : Listed) → Shows onward x → Shows onward (if b then x else unlisted [] why.CodeEnds)
     unfolding Shows
     if_shows true x h = h
     if_shows false x h = tt

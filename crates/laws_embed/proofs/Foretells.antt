@@ -1,5 +1,5 @@
 -- An entry that is lent nothing of a result store writes nothing, and says the same of what comes before 17.
-use Rattle.std.specs.Prelude.{if◌then◌else◌}
+use Rattle.std.specs.Prelude.{if◌then◌else◌, Err}
 use mathlib.Core.Path.{◌≡◌, refl, sym, ◌∙◌}
 use mathlib.Core.Bool.{Bool, true, false, ◌&&◌}
 use mathlib.Core.List.{List, [], ◌∷◌}
@@ -9,9 +9,8 @@ use lib.ListN.{length}
 use lib.Seq.{sets}
 use Rattle.model.specs.declared.Counts.{Counts}
 use Rattle.model.specs.declared.Vm.{Vm}
-use Rattle.model.specs.declared.Told.TheVariants as t
 use Rattle.model.specs.Basics.{written}
-use Rattle.model.specs.Answers.{told_number}
+use Rattle.model.specs.Answers.{answer_number}
 use Rattle.model.specs.declared.Value.{Value}
 use Rattle.model.specs.declared.Value.TheVariants as val
 use Rattle.model.specs.Values.{places, if_string, if_reference, text_at}
@@ -22,18 +21,19 @@ use Rattle.model.specs.Listings.{Listed, text, unlisted, listing_of}
 use Rattle.model.specs.Loading.{OutRes, put_out, save_of, put_listing, list_order, list_of}
 use Rattle.model.specs.Readers.{reads_text, text_shown, text_bytes_of}
 use Rattle.embed_words.specs.Coding.{at_entry, at_listing, among, crossed}
+use Rattle.model.specs.declared.Refusal.TheVariants as why
 
 pub record Foretells (firsts : List ℕ) (rule : List ℕ → OutRes) : Type 0 where
-  pub number : (out : List ℕ) (why : ℕ) → crossed firsts why (told_number (rule []).answer) ≡ crossed firsts why (told_number (rule out).answer)
+  pub number : (out : List ℕ) (why : ℕ) → crossed firsts why (answer_number (rule []).answer) ≡ crossed firsts why (answer_number (rule out).answer)
   pub nothing : (rule []).out ≡ []
 
 order_foretells : (firsts : List ℕ) (g : Bool) (rule : List ℕ → OutRes) → Foretells firsts rule
-    → Foretells firsts (λ out. if g then rule out else record { answer = t.Refused 19; out = out })
+    → Foretells firsts (λ out. if g then rule out else record { answer = Err why.NotInOrder; out = out })
 order_foretells firsts true rule p = record { number = p.number; nothing = p.nothing }
 order_foretells firsts false rule p = record { number = λ out why. refl; nothing = refl }
 
-either_why : (firsts : List ℕ) (why : ℕ) (b : Bool) (x y : OutRes) → crossed firsts why (told_number x.answer) ≡ why → crossed firsts why (told_number y.answer) ≡ why
-    → crossed firsts why (told_number (if b then x else y).answer) ≡ why
+either_why : (firsts : List ℕ) (why : ℕ) (b : Bool) (x y : OutRes) → crossed firsts why (answer_number x.answer) ≡ why → crossed firsts why (answer_number y.answer) ≡ why
+    → crossed firsts why (answer_number (if b then x else y).answer) ≡ why
 either_why firsts why true x y p q = p
 either_why firsts why false x y p q = q
 
@@ -68,7 +68,7 @@ listed_foretells (text bytes) = record {
       ∙ sym (either_why at_listing why (leb (length bytes) (places 1 out)) _ _ refl refl);
   nothing = put_nothing bytes;
 }
-listed_foretells (unlisted l n) = record { number = λ out why. refl; nothing = refl }
+listed_foretells (unlisted l e) = record { number = λ out why. refl; nothing = refl }
 
 pub list_foretells : (c : Counts) (s : Stores) → Foretells at_listing (list_of c s)
 unfolding list_of

@@ -8,31 +8,24 @@ use native.Mathlib.Omega.{arith}
 use lib.ListN.{length}
 use Rattle.model.specs.declared.Vm.{Vm}
 use Rattle.model.specs.declared.Value.{Value}
-use Rattle.model.specs.declared.Emitted.{Emitted}
-use Rattle.model.specs.declared.Emitted.TheVariants as e
-use Rattle.model.specs.declared.Started.{Started}
-use Rattle.model.specs.declared.Started.TheVariants as st
-use Rattle.model.specs.declared.Changed.{Changed}
-use Rattle.model.specs.declared.Changed.TheVariants as ch
-use Rattle.model.specs.declared.Told.{Told}
-use Rattle.model.specs.declared.Told.TheVariants as t
-use Rattle.model.specs.declared.Shown.{Shown}
-use Rattle.model.specs.declared.Shown.TheVariants as sh
-use Rattle.model.specs.declared.Headed.{Headed}
-use Rattle.model.specs.declared.Headed.TheVariants as hd
-use Rattle.model.specs.declared.RunResult.{RunResult}
-use Rattle.model.specs.declared.RunResult.TheVariants as r
+use Rattle.model.specs.declared.Halt.TheVariants as r
 use Rattle.model.specs.Basics.{written}
 use Rattle.model.specs.Stores.{Stores}
 use Rattle.model.specs.Loading.{OutRes}
 use Rattle.model.specs.Machines.{Lent, under_in, progress_in, run_order, answer_in, Left}
 use Rattle.embed_words.specs.Coding.{vm_in, vm_words, record_ok, FineLast, TypedLast, Coded, run_words, run_coded, started_coded, changed_coded, emitted_coded, told_coded, shown_coded, headed_coded}
 use Rattle.embed_words.proofs.Back.{record_back}
-use Rattle.demands.specs.Host.{Done, counted, replaced, with_setting, vm_after, backtrace, Answer, ran, emitted, started, changed, told, put, shown, headed}
+use Rattle.demands.specs.Host.{counted, replaced, with_setting, vm_after, Answer, ran, emitted, started, changed, told, put, shown, headed}
 use Rattle.demands.specs.Refusals.{refused_by}
 use Rattle.demands.proofs.OneRun.{length_entries}
 use Rattle.laws_hosts.specs.Crossed.{number_of, answer_words}
 use Rattle.laws_hosts.proofs.Records.{order_fine, recounted}
+use Rattle.std.specs.Prelude.{Err, Ok, Result}
+use Rattle.model.specs.declared.Counts.{Counts}
+use Rattle.model.specs.declared.Header.{Header}
+use Rattle.model.specs.declared.Halt.{Halt}
+use Rattle.model.specs.declared.Refusal.{Refusal}
+use Rattle.model.specs.declared.Refusal.TheVariants as why
 
 -- over the record's words w, the words c tell the answer x, and their record is of m
 pub record CodedAs (w a : List ℕ) (x : Answer) (m : Vm) (c : Coded) : Type 0 where
@@ -46,39 +39,39 @@ not_refused : {A : Type 0} {n : ℕ} → none ≡ some n → A
 not_refused e = absurd (let z : ◌≡◌ {A = ℕ} 0 1 = cc in let y : ⊥ = omega arith in y)
 
 module _ (w a : List ℕ) where
-  pub emitted_as_lem : 17 ≤ length w → (x : Emitted) → CodedAs w a (emitted x) (counted (vm_in w) x) (emitted_coded x w a)
+  pub emitted_as_lem : 17 ≤ length w → (x : Result (Counts × ℕ) Refusal) → CodedAs w a (emitted x) (counted (vm_in w) x) (emitted_coded x w a)
   unfolding emitted_coded written
-  emitted_as_lem l (e.Done c n) = let z = recounted c w l in record { machine = z.machine; taken = λ ok. z.taken ∙ ok; number = refl; words = refl; kept = λ i y. not_refused y }
-  emitted_as_lem l (e.Refused n) = record { machine = refl; taken = λ ok. ok; number = refl; words = refl; kept = λ i y. refl }
+  emitted_as_lem l (Ok (c, n)) = let z = recounted c w l in record { machine = z.machine; taken = λ ok. z.taken ∙ ok; number = refl; words = refl; kept = λ i y. not_refused y }
+  emitted_as_lem l (Err e) = record { machine = refl; taken = λ ok. ok; number = refl; words = refl; kept = λ i y. refl }
 
-  pub started_as_lem : 17 ≤ length w → (x : Started) → ((m : Vm) → x ≡ st.Done m → FineLast m.last) → CodedAs w a (started x) (replaced (vm_in w) x) (started_coded x w a)
+  pub started_as_lem : 17 ≤ length w → (x : Result Vm Refusal) → ((m : Vm) → x ≡ Ok m → FineLast m.last) → CodedAs w a (started x) (replaced (vm_in w) x) (started_coded x w a)
   unfolding started_coded written
-  started_as_lem l (st.Done m) f = let z = record_back w m l (f m refl) in record { machine = z.machine; taken = λ ok. z.taken; number = refl; words = refl; kept = λ i y. not_refused y }
-  started_as_lem l (st.Broken i) f = record { machine = refl; taken = λ ok. ok; number = refl; words = refl; kept = λ i y. refl }
-  started_as_lem l (st.Refused n) f = record { machine = refl; taken = λ ok. ok; number = refl; words = refl; kept = λ i y. refl }
+  started_as_lem l (Ok m) f = let z = record_back w m l (f m refl) in record { machine = z.machine; taken = λ ok. z.taken; number = refl; words = refl; kept = λ i y. not_refused y }
+  started_as_lem l (Err (why.BrokenImage i)) f = record { machine = refl; taken = λ ok. ok; number = refl; words = refl; kept = λ i y. refl }
+  started_as_lem l (Err e) f = record { machine = refl; taken = λ ok. ok; number = refl; words = refl; kept = λ i y. refl }
 
-  pub changed_as : 17 ≤ length w → (x : Changed) → ((m : Vm) → x ≡ ch.Done m → FineLast m.last) → CodedAs w a (changed x) (with_setting (vm_in w) x) (changed_coded x w a)
+  pub changed_as : 17 ≤ length w → (x : Result Vm Refusal) → ((m : Vm) → x ≡ Ok m → FineLast m.last) → CodedAs w a (changed x) (with_setting (vm_in w) x) (changed_coded x w a)
   unfolding changed_coded written
-  changed_as l (ch.Done m) f = let z = record_back w m l (f m refl) in record { machine = z.machine; taken = λ ok. z.taken; number = refl; words = refl; kept = λ i y. not_refused y }
-  changed_as l (ch.Refused n) f = record { machine = refl; taken = λ ok. ok; number = refl; words = refl; kept = λ i y. refl }
+  changed_as l (Ok m) f = let z = record_back w m l (f m refl) in record { machine = z.machine; taken = λ ok. z.taken; number = refl; words = refl; kept = λ i y. not_refused y }
+  changed_as l (Err e) f = record { machine = refl; taken = λ ok. ok; number = refl; words = refl; kept = λ i y. refl }
 
-  pub told_as : (x : Told) → CodedAs w a (told x) (vm_in w) (told_coded x w a)
+  pub told_as : (x : Result ℕ Refusal) → CodedAs w a (told x) (vm_in w) (told_coded x w a)
   unfolding told_coded written
-  told_as (t.Number n) = record { machine = refl; taken = λ ok. ok; number = refl; words = refl; kept = λ i y. refl }
-  told_as (t.Refused n) = record { machine = refl; taken = λ ok. ok; number = refl; words = refl; kept = λ i y. refl }
+  told_as (Ok n) = record { machine = refl; taken = λ ok. ok; number = refl; words = refl; kept = λ i y. refl }
+  told_as (Err e) = record { machine = refl; taken = λ ok. ok; number = refl; words = refl; kept = λ i y. refl }
 
   pub put_as : (out : List ℕ) (x : OutRes) → CodedAs w a (put out x) (vm_in w) (told_coded x.answer w a)
   put_as out x = let z = told_as x.answer in record { machine = z.machine; taken = z.taken; number = z.number; words = z.words; kept = z.kept }
 
-  pub shown_as_lem : (x : Shown) → CodedAs w a (shown x) (vm_in w) (shown_coded x w a)
+  pub shown_as_lem : (x : Result Value Refusal) → CodedAs w a (shown x) (vm_in w) (shown_coded x w a)
   unfolding shown_coded written
-  shown_as_lem (sh.Value v) = record { machine = refl; taken = λ ok. ok; number = refl; words = refl; kept = λ i y. refl }
-  shown_as_lem (sh.Refused n) = record { machine = refl; taken = λ ok. ok; number = refl; words = refl; kept = λ i y. refl }
+  shown_as_lem (Ok v) = record { machine = refl; taken = λ ok. ok; number = refl; words = refl; kept = λ i y. refl }
+  shown_as_lem (Err e) = record { machine = refl; taken = λ ok. ok; number = refl; words = refl; kept = λ i y. refl }
 
-  pub headed_as : (x : Headed) → CodedAs w a (headed x) (vm_in w) (headed_coded x w a)
+  pub headed_as : (x : Result Header Refusal) → CodedAs w a (headed x) (vm_in w) (headed_coded x w a)
   unfolding headed_coded written
-  headed_as (hd.Is x) = record { machine = refl; taken = λ ok. ok; number = refl; words = refl; kept = λ i y. refl }
-  headed_as (hd.Refused n) = record { machine = refl; taken = λ ok. ok; number = refl; words = refl; kept = λ i y. refl }
+  headed_as (Ok x) = record { machine = refl; taken = λ ok. ok; number = refl; words = refl; kept = λ i y. refl }
+  headed_as (Err e) = record { machine = refl; taken = λ ok. ok; number = refl; words = refl; kept = λ i y. refl }
 
 -- a part of a run: what it leaves is in good order, so that its last result fits two words
 module _ (w a : List ℕ) (long : 17 ≤ length w) (s : Stores) (l l' : Lent) where
@@ -88,10 +81,10 @@ module _ (w a : List ℕ) (long : 17 ≤ length w) (s : Stores) (l l' : Lent) wh
       let z = record_back w m long (order_fine m s l' o t) in
       record { machine = ap vm_in ev ∙ z.machine; taken = λ ok. ap record_ok ev ∙ z.taken; number = en; words = ea; kept = λ i y. not_refused (sym er ∙ y) }
 
-  pub ran_as : (x : RunResult) → Left s l x l' → TypedLast (vm_after (vm_in w) x).last → CodedAs w a (ran (answer_in l' x)) (vm_after (vm_in w) x) (run_coded x w a)
+  pub ran_as : (x : Result Halt Refusal) → Left s l x l' → TypedLast (vm_after (vm_in w) x).last → CodedAs w a (ran (answer_in l' x)) (vm_after (vm_in w) x) (run_coded x w a)
   unfolding run_coded run_words answer_in under_in progress_in written
-  ran_as (r.Value m v n) y t = left_as m _ _ y.order t refl refl refl refl
-  ran_as (r.Continue m n) y t = left_as m _ _ y.order t refl refl refl refl
-  ran_as (r.Fault m k n j) y t = left_as m _ _ y.order t refl refl refl (rw (length_entries j 0 l'.backtrace))
-  ran_as (r.Paused m) y t = left_as m _ _ y.order t refl refl refl refl
-  ran_as (r.Refused n) y t = record { machine = refl; taken = λ ok. ok; number = refl; words = refl; kept = λ i y. refl }
+  ran_as (Ok (r.Value m v n)) y t = left_as m _ _ y.order t refl refl refl refl
+  ran_as (Ok (r.Continue m n)) y t = left_as m _ _ y.order t refl refl refl refl
+  ran_as (Ok (r.Fault m k n j)) y t = left_as m _ _ y.order t refl refl refl (rw (length_entries j 0 l'.backtrace))
+  ran_as (Ok (r.Paused m)) y t = left_as m _ _ y.order t refl refl refl refl
+  ran_as (Err e) y t = record { machine = refl; taken = λ ok. ok; number = refl; words = refl; kept = λ i y. refl }

@@ -1,5 +1,5 @@
 -- A call from C does what the entry does.
-use Rattle.std.specs.Prelude.{if◌then◌else◌}
+use Rattle.std.specs.Prelude.{if◌then◌else◌, Err, Ok, Result}
 use mathlib.Core.Path.{◌≡◌, refl, sym, subst, ◌∙◌}
 use mathlib.Core.Bool.{Bool, true, false}
 use mathlib.Core.List.{List, [], ◌∷◌}
@@ -11,11 +11,6 @@ use lib.ListN.{length, get_or}
 use Rattle.model.specs.declared.Vm.{Vm}
 use Rattle.model.specs.declared.Value.{Value}
 use Rattle.model.specs.declared.Frame.{Frame}
-use Rattle.model.specs.declared.Changed.TheVariants as ch
-use Rattle.model.specs.declared.Started.{Started}
-use Rattle.model.specs.declared.Started.TheVariants as st
-use Rattle.model.specs.declared.Loaded.{Loaded}
-use Rattle.model.specs.declared.Loaded.TheVariants as ld
 use Rattle.model.specs.Values.{kind, payload}
 use Rattle.model.specs.Stores.{Stores}
 use Rattle.model.specs.Emission.{Res, new_of}
@@ -24,8 +19,8 @@ use Rattle.model.specs.Machines.{RunCall, answer_in, RunPost, set_strict as setS
 use Rattle.embed_words.specs.Coding.{vm_in, run_in, record_ok, FineLast, TypedLast, slices_refusal, value_refusal, under_way, out_refusal, Coded, refused, started_coded, changed_coded, emitted_coded, told_coded, through, emit_through, out_through, unmade, start_through}
 use Rattle.embed_words.proofs.Back.{record_back}
 use Rattle.embed_refusals.proofs.Refusals.{slices_fit, value_exact}
-use Rattle.demands.specs.Host.{Held, with_frames, Done, emits, starts, changes, looks, vm_after, done, Ask, new, load, add_op, add_op1, add_op2, add_op3, patch, add_constant, add_struct, begin_function, end_function, set_strict, current_offset, function_idx, save, disassemble, backtrace, last_result, stack_value, block_header, element, text_bytes, Call, run, ask, Answer, ran, emitted, started, changed, told, put, shown, headed, RanBy, After}
-use Rattle.demands.specs.Refusals.{refused_started, refused_by}
+use Rattle.demands.specs.Host.{Held, with_frames, emits, starts, changes, looks, vm_after, done, Ask, new, load, add_op, add_op1, add_op2, add_op3, patch, add_constant, add_struct, begin_function, end_function, set_strict, current_offset, function_idx, save, disassemble, backtrace, last_result, stack_value, block_header, element, text_bytes, Call, run, ask, Answer, ran, emitted, started, changed, told, put, shown, headed, RanBy, After}
+use Rattle.demands.specs.Refusals.{refused_in, refused_by}
 use Rattle.demands.proofs.Refusing.{refuses}
 use Rattle.demands.proofs.Setting.{set_by, set_is}
 use Rattle.laws_hosts.specs.Hosts.{CHeld, CDone, left_by, emitting, making, setting, looking, putting, ask_through, RanThrough, Through}
@@ -33,6 +28,9 @@ use Rattle.laws_hosts.specs.Crossed.{held_in, Taken, way_of, Exact, Handed, out_
 use Rattle.laws_hosts.proofs.Typed.{last_typed, run_typed}
 use Rattle.laws_hosts.proofs.Records.{order_fine, record_long}
 use Rattle.laws_hosts.proofs.Coded.{CodedAs, emitted_as_lem, started_as_lem, changed_as, told_as, put_as, shown_as_lem, headed_as, ran_as}
+use Rattle.model.specs.declared.Counts.{Counts}
+use Rattle.model.specs.declared.Refusal.{Refusal}
+use Rattle.model.specs.declared.Refusal.TheVariants as why
 
 -- ---- from the words to what is done
 
@@ -83,12 +81,12 @@ module _ (a : List ℕ) (g : CHeld) where
 
 -- it is changed of a machine in good order alone, whose last result two words can hold
 module _ (b : Bool) (m : Vm) (s : Stores) (l : Lent) (t : TypedLast m.last) (k : Vm) where
-  fine_by : (order on : Bool) → run_order m s l ≡ order → set_by b order on m ≡ ch.Done k → FineLast k.last
+  fine_by : (order on : Bool) → run_order m s l ≡ order → set_by b order on m ≡ Ok k → FineLast k.last
   fine_by true true o e = absurd (let z : ◌≡◌ {A = ℕ} 0 1 = cc in let y : ⊥ = omega arith in y)
   fine_by true false o e = let z : strictly b m ≡ k = cc in subst (λ (x : Vm). FineLast x.last) z (order_fine m s l o t)
   fine_by false on o e = absurd (let z : ◌≡◌ {A = ℕ} 0 1 = cc in let y : ⊥ = omega arith in y)
 
-  set_fine : setStrictOf b m s l ≡ ch.Done k → FineLast k.last
+  set_fine : setStrictOf b m s l ≡ Ok k → FineLast k.last
   set_fine e = fine_by (run_order m s l) m.run.on refl (sym (set_is b m s l) ∙ e)
 
 module _ (a : List ℕ) (g : CHeld) where
@@ -105,48 +103,46 @@ module _ (a : List ℕ) (g : CHeld) where
 -- ---- making a machine, over whatever seventeen words
 
 -- a machine that has not run has no last result
-start_fine : (x : Loaded) (s' s : Stores) (fs : List Frame) (m : Vm) → (start_with x s' s fs).answer ≡ st.Done m → FineLast m.last
+start_fine : (x : Result Counts Refusal) (s' s : Stores) (fs : List Frame) (m : Vm) → (start_with x s' s fs).answer ≡ Ok m → FineLast m.last
 unfolding start_with fresh
-start_fine (ld.Done c) s' s [] m e = absurd (let z : ◌≡◌ {A = ℕ} 0 1 = cc in let y : ⊥ = omega arith in y)
-start_fine (ld.Done c) s' s (f ∷ fs) m e = let z : fresh c ≡ m = cc in subst (λ (k : Vm). FineLast k.last) z tt
-start_fine (ld.Broken i) s' s fs m e = absurd (let z : ◌≡◌ {A = ℕ} 0 1 = cc in let y : ⊥ = omega arith in y)
-start_fine (ld.Refused n) s' s fs m e = absurd (let z : ◌≡◌ {A = ℕ} 0 1 = cc in let y : ⊥ = omega arith in y)
+start_fine (Ok c) s' s [] m e = absurd (let z : ◌≡◌ {A = ℕ} 0 1 = cc in let y : ⊥ = omega arith in y)
+start_fine (Ok c) s' s (f ∷ fs) m e = let z : fresh c ≡ m = cc in subst (λ (k : Vm). FineLast k.last) z tt
+start_fine (Err r) s' s fs m e = absurd (let z : ◌≡◌ {A = ℕ} 0 1 = cc in let y : ⊥ = omega arith in y)
 
-none_made : {A : Type 0} {n : ℕ} {m : Vm} → st.Refused n ≡ st.Done m → A
+none_made : {A : Type 0} {r : Refusal} {m : Vm} → ◌≡◌ {A = Result Vm Refusal} (Err r) (Ok m) → A
 none_made e = absurd (let z : ◌≡◌ {A = ℕ} 0 1 = cc in let y : ⊥ = omega arith in y)
 
 -- what the record refuses where a run is under way
-pub unmade_25 : (x : Started) (w a : List ℕ) → unmade 25 x w a ≡ refused 25 w a
+pub unmade_25 : (x : Result Vm Refusal) (w a : List ℕ) → unmade 25 x w a ≡ refused 25 w a
 unfolding unmade
-unmade_25 (st.Done m) w a = refl
-unmade_25 (st.Broken i) w a = refl
-unmade_25 (st.Refused n) w a = refl
+unmade_25 (Ok m) w a = refl
+unmade_25 (Err (why.BrokenImage i)) w a = refl
+unmade_25 (Err e) w a = refl
 
 module _ (a : List ℕ) (g : CHeld) (long : 17 ≤ length g.words) (room : 1 ≤ length a) where
   out_is : out_refusal g.words 1 a ≡ (if (vm_in g.words).run.on then 25 else 0)
   unfolding out_refusal under_way vm_in run_in
   out_is = rw (le-leb 17 (length g.words) long, le-leb 1 (length a) room)
 
-  start_crosses : (q : Ask) → [] ≡ (way_of (ask q)).out → (x : StartRes) → ((m : Vm) → x.answer ≡ st.Done m → FineLast m.last) → (on : Bool) → (vm_in g.words).run.on ≡ on
+  start_crosses : (q : Ask) → [] ≡ (way_of (ask q)).out → (x : StartRes) → ((m : Vm) → x.answer ≡ Ok m → FineLast m.last) → (on : Bool) → (vm_in g.words).run.on ≡ on
       → done q (held_in g) ≡ starts (held_in g) (unless_running on g.stores g.lent.frames x) → Crosses (ask q) a g (making a g x)
   unfolding making start_through starts unless_running started_coded
   start_crosses q eo x f true o e =
       let d : CDone = record { coded = refused 25 g.words a; out = []; stores = g.stores; lent = g.lent } in
-      let y = started_as_lem g.words a long (st.Refused 25) (λ m i. none_made i) in
-      rw (out_is, o, unmade_25 x.answer g.words a) (did_so (ask q) a g d (started (st.Refused 25)) (held_in g) e y refl refl refl (λ n i. eo))
+      let y = started_as_lem g.words a long (Err why.RunUnderWay) (λ m i. none_made i) in
+      rw (out_is, o, unmade_25 x.answer g.words a) (did_so (ask q) a g d (started (Err why.RunUnderWay)) (held_in g) e y refl refl refl (λ n i. eo))
   start_crosses q eo x f false o e =
       let d : CDone = record { coded = started_coded x.answer g.words a; out = []; stores = x.stores; lent = with_frames x.frames g.lent } in
       rw (out_is, o) (did_so (ask q) a g d (started x.answer) _ e (started_as_lem g.words a long x.answer f) refl refl refl (λ n i. eo))
 
   -- and where it is made, the words are a record whatever they were
-  started_taken : (x : Started) → ((m : Vm) → x ≡ st.Done m → FineLast m.last) → refused_started x ≡ none → record_ok (started_coded x g.words a).vm ≡ true
+  started_taken : (x : Result Vm Refusal) → ((m : Vm) → x ≡ Ok m → FineLast m.last) → refused_in x ≡ none → record_ok (started_coded x g.words a).vm ≡ true
   unfolding started_coded
-  started_taken (st.Done m) f e = (record_back g.words m long (f m refl)).taken
-  started_taken (st.Broken i) f e = absurd (let z : ◌≡◌ {A = ℕ} 0 1 = cc in let y : ⊥ = omega arith in y)
-  started_taken (st.Refused n) f e = absurd (let z : ◌≡◌ {A = ℕ} 0 1 = cc in let y : ⊥ = omega arith in y)
+  started_taken (Ok m) f e = (record_back g.words m long (f m refl)).taken
+  started_taken (Err r) f e = absurd (let z : ◌≡◌ {A = ℕ} 0 1 = cc in let y : ⊥ = omega arith in y)
 
-  making_taken : (x : StartRes) → ((m : Vm) → x.answer ≡ st.Done m → FineLast m.last) → (on : Bool) → (vm_in g.words).run.on ≡ on
-      → refused_started (unless_running on g.stores g.lent.frames x).answer ≡ none → Taken (left_by (making a g x))
+  making_taken : (x : StartRes) → ((m : Vm) → x.answer ≡ Ok m → FineLast m.last) → (on : Bool) → (vm_in g.words).run.on ≡ on
+      → refused_in (unless_running on g.stores g.lent.frames x).answer ≡ none → Taken (left_by (making a g x))
   unfolding making start_through unless_running
   making_taken x f true o e = absurd (let z : ◌≡◌ {A = ℕ} 0 1 = cc in let y : ⊥ = omega arith in y)
   making_taken x f false o e = rw (out_is, o) (started_taken x.answer f e)

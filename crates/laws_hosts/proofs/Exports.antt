@@ -10,7 +10,7 @@ use Rattle.model.specs.Emission.{Res}
 use Rattle.model.specs.Machines.{Lent, new_machine_of, set_strict as setStrictOf}
 use Rattle.layout.specs.Links.{code_lent, bytes_lent, constants_lent, structs_lent, names_lent}
 use Rattle.embed_words.specs.Coding.{vm_in, slices_refusal, at_entry, Coded, changed_coded, through, EmitThrough, emit_through, Emits, StartThrough, start_through}
-use Rattle.demands.specs.Host.{with_frames, Ask, new, set_strict, run, ask}
+use Rattle.demands.specs.Host.{with_frames, Ask, new, set_strict, ask}
 use Rattle.laws_hosts.specs.Hosts.{CHeld, CDone, emitting, making, setting, ask_through, Through}
 
 module _ (a : List ℕ) (g : CHeld) where

@@ -11,8 +11,6 @@ use Rattle.model.specs.declared.Counts.{Counts}
 use Rattle.model.specs.declared.Vm.{Vm}
 use Rattle.model.specs.declared.Value.{Value}
 use Rattle.model.specs.declared.Value.TheVariants as v
-use Rattle.model.specs.declared.Last.{Last}
-use Rattle.model.specs.declared.Last.TheVariants.{Nothing, Is}
 use Rattle.model.specs.Basics.{written}
 use Rattle.model.specs.Values.{places}
 use Rattle.model.specs.Heap.{Cell, heap_of, heap_ok, exact_cells, placed_below}
@@ -30,6 +28,7 @@ use Rattle.laws_runs.proofs.Ordered.{order_of_lem}
 use Rattle.embed_words.specs.Coding.{run_in, vm_in, count_words, last_exact, record_ok, RecordOf, FineLast, TypedValue, TypedLast}
 use Rattle.demands.specs.Host.{Held}
 use Rattle.laws_hosts.specs.Crossed.{held_in}
+use Rattle.std.specs.Prelude.{None, Option, Some}
 
 -- ---- a machine in good order has a last result that two words can hold
 
@@ -44,10 +43,10 @@ module _ (t : ℕ) (H : List Cell) (texts : t < 2 ^ 32) (cells : length H < 2 ^ 
   value_fine (v.List p) e k = let z = (list_of t H (length H) p e).ends in omega arith
   value_fine (v.StructInstance p) e k = let z = (struct_of t H (length H) p e).ends in omega arith
 
-  last_fine : (x : Last) → last_ok t H x ≡ true → TypedLast x → FineLast x
+  last_fine : (x : Option Value) → last_ok t H x ≡ true → TypedLast x → FineLast x
   unfolding last_ok
-  last_fine Nothing e k = tt
-  last_fine (Is x) e k = value_fine x e k
+  last_fine None e k = tt
+  last_fine (Some x) e k = value_fine x e k
 
 pub order_fine : (m : Vm) (s : Stores) (l : Lent) → run_order m s l ≡ true → TypedLast m.last → FineLast m.last
 unfolding cells_ok

@@ -7,10 +7,9 @@ use native.Mathlib.Omega.{arith}
 use borrow.Author.Tests.{le-leb}
 use lib.ListN.{length, get_or}
 use Rattle.model.specs.declared.Run.{Run}
-use Rattle.model.specs.declared.RunResult.{RunResult}
-use Rattle.model.specs.declared.RunResult.TheVariants as r
+use Rattle.model.specs.declared.Halt.TheVariants as r
 use Rattle.model.specs.Basics.{written}
-use Rattle.model.specs.Runs.{Ran, fault, Under, ends, pauses}
+use Rattle.model.specs.Runs.{Ran, Under, ends, pauses}
 use Rattle.model.specs.Machines.{Unchanged, RunCall, begins, continues, abandons, RunAnswer, run_answer, entries_in, answer_in, no_run}
 use Rattle.model.specs.Machines as m
 use Rattle.embed_words.specs.Coding.{vm_in, run_in, under_way}
@@ -31,6 +30,10 @@ use Rattle.laws_hosts.proofs.Records.{record_long}
 use Rattle.laws_hosts.proofs.Crossing.{crossing}
 use Rattle.laws_hosts.proofs.Zero.{refused_not}
 use Rattle.laws_hosts.proofs.Chains.{c_chain_is_a_chain, c_chains_alike, tell_same}
+use Rattle.std.specs.Prelude.{Err, Ok, Result}
+use Rattle.model.specs.Answers.{refusal_number}
+use Rattle.model.specs.declared.Halt.{Halt}
+use Rattle.model.specs.declared.Refusal.{Refusal}
 
 -- ---- a run under way
 
@@ -116,17 +119,17 @@ module _ {g k : CHeld} (q : Pauses g k) (c : RunCall) (a : List ℕ) (room : 5 �
   Leaves = Demand3 ((held_in k).vm.run.given + units_of c) (held_in g) (answer_word d 3) (record { spent = answer_word d 1; returns = answer_word d 2 })
       (entries_in (answer_word d 4) 0 d.lent.backtrace) (held_in (left_by d))
 
-  result_leaves : (x : RunResult) → RanBy c (held_in k) (ran (answer_in d.lent x)) (held_in (left_by d)) → d.coded.number ≡ number_of (refused_run (answer_in d.lent x))
+  result_leaves : (x : Result Halt Refusal) → RanBy c (held_in k) (ran (answer_in d.lent x)) (held_in (left_by d)) → d.coded.number ≡ number_of (refused_run (answer_in d.lent x))
       → d.coded.answer ≡ written a 0 (part_words (answer_in d.lent x)) → Leaves
   unfolding answer_in
-  result_leaves (r.Value i v n) p en ew = not_three ew (five a room _ _ _ _ _) (λ z. omega arith) faults
-  result_leaves (r.Continue i n) p en ew = not_three ew (five a room _ _ _ _ _) (λ z. omega arith) faults
-  result_leaves (r.Fault i n did j) p en ew =
+  result_leaves (Ok (r.Value i v n)) p en ew = not_three ew (five a room _ _ _ _ _) (λ z. omega arith) faults
+  result_leaves (Ok (r.Continue i n)) p en ew = not_three ew (five a room _ _ _ _ _) (λ z. omega arith) faults
+  result_leaves (Ok (r.Fault i n did j)) p en ew =
       let f = five a room 3 did.spent did.returns n (length (entries_in j 0 d.lent.backtrace)) in
       let left = fault_recovers (over_by c q.parts p) refl in
       rw (ew, f.w1, f.w2, f.w3, f.w4, length_entries j 0 d.lent.backtrace, (pause_written q.parts).given) left
-  result_leaves (r.Paused i) p en ew = not_three ew (five a room _ _ _ _ _) (λ z. omega arith) faults
-  result_leaves (r.Refused n) p en ew = refused_not (run c) (held_in k) (held_in (left_by d)) (ran (m.refused n)) p n refl (sym en ∙ done)
+  result_leaves (Ok (r.Paused i)) p en ew = not_three ew (five a room _ _ _ _ _) (λ z. omega arith) faults
+  result_leaves (Err e) p en ew = let n = refusal_number e in refused_not (run c) (held_in k) (held_in (left_by d)) (ran (m.refused n)) p n refl (sym en ∙ done)
 
 -- DEMAND 3 of a run from C
 pub c_fault_recovers : {g k : CHeld} {c : RunCall} {a : List ℕ} {d : CDone} → Taken g → Faulted g k c a d → CDemand3 g k c d

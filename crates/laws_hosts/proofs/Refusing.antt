@@ -138,8 +138,8 @@ module _ (a : List ℕ) (g : CHeld) where
         let z = none_taken 5 in
         let why : slices_refusal g.words 5 a ≡ 0 → ⊥ = λ e. omega (arith, z, e) in
         let said = t.run.refuses why in
-        let left : d.coded ≡ refused 19 g.words a = rw (t.run.coded, said.0, ← z, stays_19 at_entry (refusal_of (run_answer c (vm_in g.words) g.stores g.lent))) in
-        let is : d ≡ record { coded = refused 19 g.words a; out = []; stores = g.stores; lent = g.lent } = rw (← left, ← t.stores, ← t.out, ← said.1) in
+        let left : d.coded ≡ refused 19 g.words a = rw (t.run.coded, said.1, said.2, ← z, stays_19 at_entry (refusal_of (run_answer c (vm_in g.words) g.stores g.lent))) in
+        let is : d ≡ record { coded = refused 19 g.words a; out = []; stores = g.stores; lent = g.lent } = rw (← left, ← t.stores, ← t.out, ← said.3) in
         rw is (not_taken (run c) [] refl)
 
     -- NO RECORD: every call but those that make a machine is refused 19, and nothing has changed

@@ -1,5 +1,5 @@
 -- A call from C whose answer has no room: 17 comes back, unless a number that comes first is due; and nothing has changed.
-use Rattle.std.specs.Prelude.{if◌then◌else◌}
+use Rattle.std.specs.Prelude.{if◌then◌else◌, Err, Ok, Result}
 use mathlib.Core.Path.{◌≡◌, refl, ap, ◌∙◌}
 use mathlib.Core.Bool.{Bool, true, false, ◌&&◌}
 use mathlib.Core.List.{List, [], ◌∷◌}
@@ -11,10 +11,6 @@ use lib.ListN.{length}
 use Rattle.model.specs.declared.Vm.{Vm}
 use Rattle.model.specs.declared.Value.{Value}
 use Rattle.model.specs.declared.Frame.{Frame}
-use Rattle.model.specs.declared.Started.{Started}
-use Rattle.model.specs.declared.Started.TheVariants as st
-use Rattle.model.specs.declared.Loaded.{Loaded}
-use Rattle.model.specs.declared.Loaded.TheVariants as ld
 use Rattle.model.specs.Basics.{written}
 use Rattle.model.specs.Values.{places, kind, payload}
 use Rattle.model.specs.Stores.{Stores}
@@ -34,6 +30,10 @@ use Rattle.laws_hosts.proofs.Typed.{if_all}
 use Rattle.laws_hosts.proofs.Records.{record_long}
 use Rattle.laws_hosts.proofs.Coded.{CodedAs, emitted_as_lem, told_as, put_as, shown_as_lem, headed_as}
 use Rattle.laws_hosts.proofs.Crossing.{unmade_25}
+use Rattle.model.specs.declared.Counts.{Counts}
+use Rattle.model.specs.declared.Refusal.{Refusal}
+use Rattle.model.specs.Answers.{refusal_number}
+use Rattle.model.specs.declared.Refusal.TheVariants as why
 
 -- ---- what the entry itself says
 
@@ -80,22 +80,22 @@ module _ (a : List ℕ) (g : CHeld) where
 -- ---- making a machine: 25, a broken image, then 17 before all else
 
 -- a refusal of the entry itself that comes behind 17
-abbrev LateLoaded : Loaded → Type 0
-LateLoaded (ld.Done c) = Unit
-LateLoaded (ld.Broken i) = Unit
-LateLoaded (ld.Refused n) = among (25 ∷ 20 ∷ []) n ≡ false
+abbrev LateLoaded : Result Counts Refusal → Type 0
+LateLoaded (Ok c) = Unit
+LateLoaded (Err (why.BrokenImage i)) = Unit
+LateLoaded (Err e) = among (25 ∷ 20 ∷ []) (refusal_number e) ≡ false
 
-abbrev LateStarted : Started → Type 0
-LateStarted (st.Done m) = Unit
-LateStarted (st.Broken i) = Unit
-LateStarted (st.Refused n) = among (25 ∷ 20 ∷ []) n ≡ false
+abbrev LateStarted : Result Vm Refusal → Type 0
+LateStarted (Ok m) = Unit
+LateStarted (Err (why.BrokenImage i)) = Unit
+LateStarted (Err e) = among (25 ∷ 20 ∷ []) (refusal_number e) ≡ false
 
-start_late : (x : Loaded) → LateLoaded x → (s' s : Stores) (fs : List Frame) → LateStarted (start_with x s' s fs).answer
+start_late : (x : Result Counts Refusal) → LateLoaded x → (s' s : Stores) (fs : List Frame) → LateStarted (start_with x s' s fs).answer
 unfolding start_with among
-start_late (ld.Done c) l s' s [] = refl
-start_late (ld.Done c) l s' s (f ∷ fs) = tt
-start_late (ld.Broken i) l s' s fs = tt
-start_late (ld.Refused n) l s' s fs = l
+start_late (Ok c) l s' s [] = refl
+start_late (Ok c) l s' s (f ∷ fs) = tt
+start_late (Err (why.BrokenImage i)) l s' s fs = tt
+start_late (Err e) l s' s fs = l
 
 judged_late : (x : Judged) (s : Stores) → LateLoaded (load_judged x s).answer
 unfolding load_judged among
@@ -108,11 +108,12 @@ unfolding new_of as_loaded among
 new_late s = if_all (λ (x : Res). LateLoaded (as_loaded x.answer)) (leb 6 (places 1 s.text) && leb 1 (places 2 s.functions)) _ _ tt refl
 
 -- with no word for an offset
-short_made : (x : Started) → LateStarted x → (w : List ℕ) → unmade 17 x w [] ≡ refused (crossed (25 ∷ 20 ∷ []) 17 (number_of (refused_by (started x)))) w []
+short_made : (x : Result Vm Refusal) → LateStarted x → (w : List ℕ) → unmade 17 x w [] ≡ refused (crossed (25 ∷ 20 ∷ []) 17 (number_of (refused_by (started x)))) w []
 unfolding unmade started_coded written crossed among
-short_made (st.Done m) l w = refl
-short_made (st.Broken i) l w = refl
-short_made (st.Refused n) l w = rw l
+short_made (Ok m) l w = refl
+short_made (Err (why.BrokenImage i)) l w = refl
+short_made (Err why.RunUnderWay) l w = absurd (let z : ◌≡◌ {A = ℕ} 0 1 = cc in let y : ⊥ = omega arith in y)
+short_made (Err e) l w = refl
 
 first_25 : 25 ≡ crossed (25 ∷ 20 ∷ []) 17 25
 unfolding crossed among
@@ -196,8 +197,8 @@ module _ (a : List ℕ) (g : CHeld) (ok : Taken g) where
       let why : slices_refusal g.words 5 a ≡ 0 → ⊥ = λ e. omega (arith, z, e) in
       let said = t.run.refuses why in
       let n = crossed at_entry 17 (own_number (run c) (held_in g)) in
-      let left : d.coded ≡ refused n g.words a = rw (t.run.coded, said.0, ← z, run_own c (held_in g)) in
-      let is : d ≡ record { coded = refused n g.words a; out = []; stores = g.stores; lent = g.lent } = rw (← left, ← t.stores, ← t.out, ← said.1) in
+      let left : d.coded ≡ refused n g.words a = rw (t.run.coded, said.1, said.2, ← z, run_own c (held_in g)) in
+      let is : d ≡ record { coded = refused n g.words a; out = []; stores = g.stores; lent = g.lent } = rw (← left, ← t.stores, ← t.out, ← said.3) in
       rw is (short_so a g (run c) [] refl n refl)
 
   -- A SHORT ANSWER: 17 comes back, unless a number that comes first is due; nothing has changed

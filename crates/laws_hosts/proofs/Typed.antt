@@ -1,9 +1,9 @@
 -- A run keeps what the types of the code say of its values: a scalar is a float of 64 bits. So two words of a record can hold its last result.
-use Rattle.std.specs.Prelude.{if◌then◌else◌}
+use Rattle.std.specs.Prelude.{if◌then◌else◌, Err, None, Ok, Option, Result, Some}
 use mathlib.Core.Path.{◌≡◌, refl, sym, subst}
 use mathlib.Core.Bool.{Bool, true, false, ◌&&◌}
 use mathlib.Core.List.{List, [], ◌∷◌, ◌++◌, map, reverse_aux}
-use mathlib.Core.Option.{Option, none, some}
+use mathlib.Core.Option.{Option as Maybe, none, some}
 use Prim.Native.Nat.{ℕ, zero, suc, ◌+◌, ◌-◌, ◌*◌}
 use lib.Dec.{T, ltb, leb, eqb}
 use lib.ListN.{length, get_or, take, drop}
@@ -18,16 +18,11 @@ use Rattle.model.specs.declared.Decoded.{Decoded}
 use Rattle.model.specs.declared.Decoded.TheVariants as d
 use Rattle.model.specs.declared.Value.{Value}
 use Rattle.model.specs.declared.Value.TheVariants as v
-use Rattle.model.specs.declared.Last.{Last}
-use Rattle.model.specs.declared.Last.TheVariants.{Nothing, Is}
 use Rattle.model.specs.declared.Header.{Header}
 use Rattle.model.specs.declared.Fault.{Fault}
-use Rattle.model.specs.declared.Found.{Found}
-use Rattle.model.specs.declared.Found.TheVariants as g
 use Rattle.model.specs.declared.Frame.{Frame}
 use Rattle.model.specs.declared.Vm.{Vm}
-use Rattle.model.specs.declared.RunResult.{RunResult}
-use Rattle.model.specs.declared.RunResult.TheVariants as r
+use Rattle.model.specs.declared.Halt.TheVariants as r
 use Rattle.model.specs.Values.{popping, popping_scalar, popping_boolean, kind_at, payload_at, value_of, value_at, vals, values_from}
 use Rattle.model.specs.Scalars.{arith_of, zero_divisor, result_of}
 use Rattle.model.specs.Heap.{Cell, item, head, header_of, cell_of, cell_at, cells_from, heap_of, cell_in, item_in, head_in, field_of, list_elements, struct_fields, block_of, Built, built, unbuilt, build_of}
@@ -44,6 +39,8 @@ use Rattle.laws_runs.proofs.Combinators.{popping_each, popping_scalar_each, popp
 use Rattle.laws_runs.proofs.Paths.{run_by}
 use Rattle.embed_words.specs.Coding.{TypedValue, TypedLast}
 use Rattle.demands.specs.Host.{vm_after}
+use Rattle.model.specs.declared.Halt.{Halt}
+use Rattle.model.specs.declared.Refusal.{Refusal}
 
 -- ---- values, cells and states
 
@@ -172,11 +169,11 @@ module _ {vs : List Value} (a : Every TypedValue vs) {e : Fault → Outcome} (fa
 -- ---- an instruction
 
 -- what is looked for
-data TypedFound : Found → Type 0 where
-  got : (x : Value) → TypedValue x → TypedFound (g.Got x)
-  bad : (n : Fault) → TypedFound (g.Bad n)
+data TypedFound : Result Value Fault → Type 0 where
+  got : (x : Value) → TypedValue x → TypedFound (Ok x)
+  bad : (n : Fault) → TypedFound (Err n)
 
-if_found : (b : Bool) {x y : Found} → TypedFound x → TypedFound y → TypedFound (if b then x else y)
+if_found : (b : Bool) {x y : Result Value Fault} → TypedFound x → TypedFound y → TypedFound (if b then x else y)
 if_found b p q = if_all TypedFound b _ _ p q
 
 constant_found : {cs : List Value} → Every TypedValue cs → (i : ℕ) → TypedFound (constant_of cs i)
@@ -187,10 +184,10 @@ slot_found : {vs : List Value} → Every TypedValue vs → (i : ℕ) → TypedFo
 unfolding slot_of
 slot_found {vs} a i = if_found (ltb i (length vs)) (got _ (at_typed a _)) (bad _)
 
-last_found : (x : Last) → TypedLast x → TypedFound (last_of x)
+last_found : (x : Option Value) → TypedLast x → TypedFound (last_of x)
 unfolding last_of
-last_found Nothing p = bad _
-last_found (Is x) p = got x p
+last_found None p = bad _
+last_found (Some x) p = got x p
 
 field_found : {H : List Cell} → CellsTyped H → (p i : ℕ) → TypedFound (field_of H p i)
 unfolding field_of
@@ -204,7 +201,7 @@ module _ (w : World) (constants : Every TypedValue w.constants) (s : State) (t :
   unfolding pushing
   pushed x p = if_typed (ltb (length s.stack) w.stack_room) (stacked (cons {u = x} p t.stack)) (fails _)
 
-  found : {x : Found} → TypedFound x → {k : Value → Outcome} → ((y : Value) → TypedValue y → TypedOutcome (k y)) → TypedOutcome (on_found x s k)
+  found : {x : Result Value Fault} → TypedFound x → {k : Value → Outcome} → ((y : Value) → TypedValue y → TypedOutcome (k y)) → TypedOutcome (on_found x s k)
   unfolding on_found
   found (got y p) q = q y p
   found (bad n) q = fails n
@@ -213,7 +210,7 @@ module _ (w : World) (constants : Every TypedValue w.constants) (s : State) (t :
   unfolding enter
   entered i n {vs} a = if_typed (ltb (length vs) n) (fails _) (if_typed (leb w.frame_room (suc (length s.callers))) (fails _) (goes (record { stack = a; heap = t.heap; last = t.last })))
 
-  named : (n : ℕ) {vs : List Value} → Every TypedValue vs → (x : Option ℕ) → TypedOutcome (enter_named w n vs s x)
+  named : (n : ℕ) {vs : List Value} → Every TypedValue vs → (x : Maybe ℕ) → TypedOutcome (enter_named w n vs s x)
   unfolding enter_named
   named n a none = fails _
   named n a (some i) = entered i n a
@@ -356,10 +353,10 @@ part_of_lem : {c : Unchanged} {x : Part} → TypedAnswer (ran c x) → TypedPart
 part_of_lem (runs c x p) = p
 
 -- the last result that a call of a run leaves is typed
-pub run_typed : (c : RunCall) (m : Vm) (s : Stores) (l : Lent) (x : RunResult) (l' : Lent) → TypedLast m.last → RunPost c m s l x l' → TypedLast (vm_after m x).last
+pub run_typed : (c : RunCall) (m : Vm) (s : Stores) (l : Lent) (x : Result Halt Refusal) (l' : Lent) → TypedLast m.last → RunPost c m s l x l' → TypedLast (vm_after m x).last
 unfolding answer_in machine_in under_in
-run_typed c m s l (r.Value k y n) l' t p = part_of_lem (subst TypedAnswer (sym p.answer) (answer_typed m s l t c))
-run_typed c m s l (r.Continue k n) l' t p = part_of_lem (subst TypedAnswer (sym p.answer) (answer_typed m s l t c))
-run_typed c m s l (r.Fault k i n j) l' t p = part_of_lem (subst TypedAnswer (sym p.answer) (answer_typed m s l t c))
-run_typed c m s l (r.Paused k) l' t p = part_of_lem (subst TypedAnswer (sym p.answer) (answer_typed m s l t c))
-run_typed c m s l (r.Refused n) l' t p = t
+run_typed c m s l (Ok (r.Value k y n)) l' t p = part_of_lem (subst TypedAnswer (sym p.answer) (answer_typed m s l t c))
+run_typed c m s l (Ok (r.Continue k n)) l' t p = part_of_lem (subst TypedAnswer (sym p.answer) (answer_typed m s l t c))
+run_typed c m s l (Ok (r.Fault k i n j)) l' t p = part_of_lem (subst TypedAnswer (sym p.answer) (answer_typed m s l t c))
+run_typed c m s l (Ok (r.Paused k)) l' t p = part_of_lem (subst TypedAnswer (sym p.answer) (answer_typed m s l t c))
+run_typed c m s l (Err e) l' t p = t

@@ -9,6 +9,8 @@ use borrow.Author.Tests.{leb-true, eqb-true}
 use lib.Dec.{eqb, leb}
 use Rattle.model.specs.declared.Value.{Value}
 use Rattle.model.specs.declared.Value.TheVariants as v
+use Rattle.model.specs.declared.Refusal.{Refusal}
+use Rattle.model.specs.Answers.{refusal_number}
 use Rattle.model.specs.Images.{Judged, fine, broken, judge}
 use Rattle.model.specs.Listings.{Listed, text, unlisted, listing_of}
 use Rattle.model.specs.Stores.{program_in}
@@ -48,10 +50,10 @@ one_or_three n true b e f z = let y : n ≡ 1 = eqb-true n 1 e in rw y
 one_or_three n false true e f z = let y : n ≡ 3 = eqb-true n 3 f in rw y
 one_or_three n false false e f z = absurd (let y : ◌≡◌ {A = ℕ} 0 1 = cc in let x : ⊥ = omega arith in x)
 
-list_numbered : (out : List ℕ) (x : Listed) → ((l : List ℕ) (n : ℕ) → x ≡ unlisted l n → (eqb n 1 || eqb n 3) ≡ true) → numbered (list_checks out x) ≡ true
+list_numbered : (out : List ℕ) (x : Listed) → ((l : List ℕ) (e : Refusal) → x ≡ unlisted l e → (eqb (refusal_number e) 1 || eqb (refusal_number e) 3) ≡ true) → numbered (list_checks out x) ≡ true
 unfolding numbered list_checks
 list_numbered out (text bytes) f = refl
-list_numbered out (unlisted l n) f = rw (one_or_three n (eqb n 1) (eqb n 3) refl refl (f l n refl))
+list_numbered out (unlisted l e) f = let n = refusal_number e in rw (one_or_three n (eqb n 1) (eqb n 3) refl refl (f l e refl))
 
 element_numbered : (h : Held) (i : ℕ) (x : Option ℕ) → numbered (element_checks h i x) ≡ true
 unfolding numbered element_checks

@@ -1,19 +1,8 @@
 -- What crosses: a host in C holds what a host in Rattle holds, and what comes back to it tells the entry's answer.
-use Rattle.std.specs.Prelude.{◌≡◌, Bool, true, List, [], ◌∷◌, ℕ, ◌≤◌, leb, length, if◌then◌else◌}
+use Rattle.std.specs.Prelude.{◌≡◌, Bool, true, List, [], ◌∷◌, ℕ, ◌≤◌, leb, length, if◌then◌else◌, Err, Ok, Result}
 use Rattle.std.proofs.Math.Option.{Option, none, some}
 use Rattle.model.specs.declared.Value.{Value}
 use Rattle.model.specs.declared.Vm.{Vm}
-use Rattle.model.specs.declared.Emitted.{Emitted}
-use Rattle.model.specs.declared.Emitted.TheVariants as e
-use Rattle.model.specs.declared.Started.{Started}
-use Rattle.model.specs.declared.Started.TheVariants as st
-use Rattle.model.specs.declared.Changed.{Changed}
-use Rattle.model.specs.declared.Told.{Told}
-use Rattle.model.specs.declared.Told.TheVariants as t
-use Rattle.model.specs.declared.Shown.{Shown}
-use Rattle.model.specs.declared.Shown.TheVariants as sh
-use Rattle.model.specs.declared.Headed.{Headed}
-use Rattle.model.specs.declared.Headed.TheVariants as h
 use Rattle.model.specs.Basics.{written}
 use Rattle.model.specs.Values.{value_of, kind, payload, exact_value}
 use Rattle.model.specs.Runs.{Reply, value, continue, fault, ends, pauses}
@@ -23,6 +12,10 @@ use Rattle.demands.specs.Host.{Held, Ask, new, load, add_op, add_op1, add_op2, a
 use Rattle.demands.specs.Refusals.{first_of, checks, refused_by}
 use Rattle.demands.specs.Kept.{InOrder}
 use Rattle.laws_hosts.specs.Hosts.{CHeld, CDone, left_by}
+use Rattle.model.specs.declared.Counts.{Counts}
+use Rattle.model.specs.declared.Header.{Header}
+use Rattle.model.specs.declared.Refusal.{Refusal}
+use Rattle.model.specs.declared.Refusal.TheVariants as why
 
 -- the machine m with that setting
 abbrev pub strictly : (strict : Bool) → Vm → Vm
@@ -120,31 +113,31 @@ part_words (answered c (ends x)) = reply_words x.reply
 part_words (answered c (pauses r)) = 4 ∷ r.state.spent ∷ r.progress.returns ∷ 0 ∷ 0 ∷ []
 part_words (refused n) = []
 
-abbrev pub emitted_words : Emitted → List ℕ
-emitted_words (e.Done c n) = n ∷ []
-emitted_words (e.Refused n) = []
+abbrev pub emitted_words : Result (Counts × ℕ) Refusal → List ℕ
+emitted_words (Ok (c, n)) = n ∷ []
+emitted_words (Err e) = []
 
 -- of refusal 20 the offset
-abbrev pub started_words : Started → List ℕ
-started_words (st.Done m) = []
-started_words (st.Broken i) = i ∷ []
-started_words (st.Refused n) = []
+abbrev pub started_words : Result Vm Refusal → List ℕ
+started_words (Ok m) = []
+started_words (Err (why.BrokenImage i)) = i ∷ []
+started_words (Err e) = []
 
 -- whether the machine is strict is a word of its record
-abbrev pub changed_words : Changed → List ℕ
+abbrev pub changed_words : Result Vm Refusal → List ℕ
 changed_words x = []
 
-abbrev pub told_words : Told → List ℕ
-told_words (t.Number n) = n ∷ []
-told_words (t.Refused n) = []
+abbrev pub told_words : Result ℕ Refusal → List ℕ
+told_words (Ok n) = n ∷ []
+told_words (Err e) = []
 
-abbrev pub shown_words : Shown → List ℕ
-shown_words (sh.Value v) = kind v ∷ payload v ∷ []
-shown_words (sh.Refused n) = []
+abbrev pub shown_words : Result Value Refusal → List ℕ
+shown_words (Ok v) = kind v ∷ payload v ∷ []
+shown_words (Err e) = []
 
-abbrev pub headed_words : Headed → List ℕ
-headed_words (h.Is x) = x.count ∷ x.number ∷ x.depth ∷ []
-headed_words (h.Refused n) = []
+abbrev pub headed_words : Result Header Refusal → List ℕ
+headed_words (Ok x) = x.count ∷ x.number ∷ x.depth ∷ []
+headed_words (Err e) = []
 
 abbrev pub answer_words : Answer → List ℕ
 answer_words (ran x) = part_words x

@@ -1,7 +1,6 @@
 -- What a host in C holds, and what the export of each host call promises it: by cases over what crosses, no new rule.
-use Rattle.std.specs.Prelude.{◌≡◌, false, List, [], ℕ}
+use Rattle.std.specs.Prelude.{◌≡◌, false, List, [], ℕ, Result}
 use Rattle.model.specs.declared.Vm.{Vm}
-use Rattle.model.specs.declared.Changed.{Changed}
 use Rattle.model.specs.Values.{value_of, kind, payload}
 use Rattle.model.specs.Stores.{Stores}
 use Rattle.model.specs.Emission.{Res, add_op_of, add_op1_of, add_op2_of, add_op3_of, current_offset_of, patch_of, add_constant_of, add_struct_of, begin_function_of, end_function_of, function_idx_of}
@@ -10,6 +9,7 @@ use Rattle.model.specs.Machines.{Lent, RunCall, set_strict as setStrictOf, backt
 use Rattle.model.specs.Readers.{last_result_of, stack_value_of, block_header_of, element_of, text_bytes_of}
 use Rattle.embed_words.specs.Coding.{vm_in, slices_refusal, value_refusal, at_entry, at_listing, Coded, changed_coded, told_coded, shown_coded, headed_coded, through, emit_through, out_through, RunThrough, start_through}
 use Rattle.demands.specs.Host.{with_frames, Ask, new, load, add_op, add_op1, add_op2, add_op3, patch, add_constant, add_struct, begin_function, end_function, set_strict, current_offset, function_idx, save, disassemble, backtrace, last_result, stack_value, block_header, element, text_bytes, Call, run, ask}
+use Rattle.model.specs.declared.Refusal.{Refusal}
 
 -- the words of a machine's record, the program's stores, and what is lent besides
 pub record CHeld : Type 0 where
@@ -43,7 +43,7 @@ making a g r =
     record { coded = x.coded; out = []; stores = x.stores; lent = with_frames x.frames g.lent }
 
 -- changing the setting: the record alone is written. Nothing is told besides, so that no store is lent for an answer: a is [], and in any case as it was
-unfoldable pub setting : (a : List ℕ) → CHeld → (Vm → Changed) → CDone
+unfoldable pub setting : (a : List ℕ) → CHeld → (Vm → Result Vm Refusal) → CDone
 setting a g rule = record {
   coded = through at_entry (slices_refusal g.words 0 a) g.words a (changed_coded (rule (vm_in g.words)) g.words a);
   out = [];

@@ -1,5 +1,5 @@
 -- Through the entries: what the check passed, and what was loaded of an image whose program passes, is installed; and so it runs.
-use Rattle.std.specs.Prelude.{if◌then◌else◌}
+use Rattle.std.specs.Prelude.{if◌then◌else◌, Err, Ok, Result}
 use mathlib.Core.Path.{◌≡◌, refl, sym, ap, subst, ◌∙◌}
 use mathlib.Core.Bool.{Bool, true, false, ◌&&◌}
 use mathlib.Core.List.{List, [], ◌∷◌}
@@ -12,10 +12,7 @@ use borrow.Author.Tests.{leb-true}
 use Rattle.model.specs.declared.Counts.{Counts}
 use Rattle.model.specs.declared.Frame.{Frame}
 use Rattle.model.specs.declared.Vm.{Vm}
-use Rattle.model.specs.declared.RunResult.{RunResult}
-use Rattle.model.specs.declared.RunResult.TheVariants as r
-use Rattle.model.specs.declared.Loaded.TheVariants as l
-use Rattle.model.specs.declared.Started.TheVariants as st
+use Rattle.model.specs.declared.Halt.TheVariants as r
 use Rattle.model.specs.Numbers.{Bytes}
 use Rattle.model.specs.Values.{places}
 use Rattle.model.specs.Programs.{Program, within_limits}
@@ -28,8 +25,6 @@ use Rattle.model.specs.Machines.{Lent, innermost, fresh, StartRes, start_with, u
 use Rattle.layout.proofs.Parts.{room_1}
 use Rattle.laws_images.proofs.Held.{written_front}
 use Rattle.image.proofs.Trip.{image_only, loaded_stands}
-use Rattle.check_rules.specs.declared.Checked.{Checked}
-use Rattle.check_rules.specs.declared.Checked.TheVariants as c
 use Rattle.check_rules.specs.Rules.{Passed}
 use Rattle.check_rules.specs.Checks.{HeightsOf, CheckAs, not_an_image, no_place_lem, past_a_limit, no_room, breaks, passes}
 use Rattle.embed_words.specs.Coding.{Coded, vm_in, vm_words, slices_refusal}
@@ -39,6 +34,10 @@ use Rattle.check_words.specs.Words as cw
 use Rattle.check_words.proofs.Judged.{an_image_has_main}
 use Rattle.laws_installed.specs.Installed.{Installed, by_entries, FromC, UnderWay, begun, continued, Answers, beginning, continuing, abandoning, FaultsSo, Tells, StaysWithin}
 use Rattle.laws_installed.proofs.Running.{installed_runs_so, installed_stays_within}
+use Rattle.model.specs.declared.Halt.{Halt}
+use Rattle.model.specs.declared.Refusal.{Refusal}
+use Rattle.check_rules.specs.declared.Rejected.{Rejected}
+use Rattle.model.specs.declared.Refusal.TheVariants as why
 
 -- a program that was laid in stores with the room, and a machine that has not run
 laid_is_installed : (image : List ℕ) (p : Program) (s : Stores) → Bytes image → judge image ≡ fine p → within_limits p ≡ true → room_for p s ≡ true
@@ -67,14 +66,14 @@ pub record Leaves (k : Counts) (hs : List ℕ) (s : Stores) : Type 0 where
   pub tells : Tells program hs
   pub installed : (l : Lent) → innermost 1 l.frames ≡ root 0 → Installed program (fresh k) s l
 
-not_done : {n : ℕ} {m : Vm} → st.Refused n ≡ st.Done m → ⊥
+not_done : {r : Refusal} {m : Vm} → ◌≡◌ {A = Result Vm Refusal} (Err r) (Ok m) → ⊥
 not_done e = let z : ◌≡◌ {A = ℕ} 0 1 = cc in omega arith
 
-one_machine : {m k : Vm} → st.Done m ≡ st.Done k → m ≡ k
+one_machine : {m k : Vm} → ◌≡◌ {A = Result Vm Refusal} (Ok m) (Ok k) → m ≡ k
 one_machine e = cc
 
 module _ (image heights : List ℕ) (s : Stores) (bytes : Bytes image) where
-  leaves_so : {x : Checked} {hs : List ℕ} {s' : Stores} → CheckAs image heights s x hs s' → (k : Counts) → x ≡ c.Passed k → Leaves k hs s'
+  leaves_so : {x : Result Counts Rejected} {hs : List ℕ} {s' : Stores} → CheckAs image heights s x hs s' → (k : Counts) → x ≡ Ok k → Leaves k hs s'
   leaves_so (not_an_image j) k e = absurd (let z : ◌≡◌ {A = ℕ} 0 1 = cc in let y : ⊥ = omega arith in y)
   leaves_so (no_place_lem j m) k e = absurd (let z : ◌≡◌ {A = ℕ} 0 1 = cc in let y : ⊥ = omega arith in y)
   leaves_so (past_a_limit j m w) k e = absurd (let z : ◌≡◌ {A = ℕ} 0 1 = cc in let y : ⊥ = omega arith in y)
@@ -89,8 +88,8 @@ module _ (image heights : List ℕ) (s : Stores) (bytes : Bytes image) where
         installed = λ l f. subst (λ (n : Counts). Installed p (fresh n) (laid p s) l) same (laid_is_installed image p s bytes j w r l f);
       }
 
-  module _ {k : Counts} {hs : List ℕ} {s' : Stores} (h : CheckAs image heights s (c.Passed k) hs s') (l : Lent) (frame : innermost 1 l.frames ≡ root 0) where
-    pub checked_runs_so : (g : ℕ) (x : RunResult) (l' : Lent) → Answers (by_entries s') (fresh k) l g x l' → FaultsSo (fresh k) s' l g l' x
+  module _ {k : Counts} {hs : List ℕ} {s' : Stores} (h : CheckAs image heights s (Ok k) hs s') (l : Lent) (frame : innermost 1 l.frames ≡ root 0) where
+    pub checked_runs_so : (g : ℕ) (x : Result Halt Refusal) (l' : Lent) → Answers (by_entries s') (fresh k) l g x l' → FaultsSo (fresh k) s' l g l' x
     checked_runs_so g x l' answer = let left = leaves_so h k refl in installed_runs_so (fresh k) s' l left.passed (left.installed l frame) x answer
 
     pub checked_stays_within : StaysWithin (by_entries s') (fresh k) s' l hs
@@ -103,11 +102,11 @@ module _ (image : List ℕ) (s : Stores) (bytes : Bytes image) (p : Program) (j 
   abbrev loaded : Bool → Bool → LoadRes
   loaded within room =
       if within
-      then (if room then record { answer = l.Done (counts_for p); stores = laid p s } else record { answer = l.Refused 21; stores = s })
-      else record { answer = l.Refused 22; stores = s }
+      then (if room then record { answer = Ok (counts_for p); stores = laid p s } else record { answer = Err why.StoreFull; stores = s })
+      else record { answer = Err why.OverLimit; stores = s }
 
   loaded_is : (within room : Bool) → within_limits p ≡ within → room_for p s ≡ room → (fs : List Frame) {m : Vm} {s' : Stores} {fs' : List Frame}
-      → start_with (loaded within room).answer (loaded within room).stores s fs ≡ record { answer = st.Done m; stores = s'; frames = fs' }
+      → start_with (loaded within room).answer (loaded within room).stores s fs ≡ record { answer = Ok m; stores = s'; frames = fs' }
       → (l : Lent) → l.frames ≡ fs' → Installed p m s' l
   unfolding start_with innermost
   loaded_is false room w r fs e l f = absurd (not_done (ap (λ (x : StartRes). x.answer) e))
@@ -120,8 +119,8 @@ module _ (image : List ℕ) (s : Stores) (bytes : Bytes image) (p : Program) (j 
       subst (λ (v : Vm). Installed p v s' l) machine
       (subst (λ (t : Stores). Installed p (fresh (counts_for p)) t l) stores (laid_is_installed image p s bytes j w r l (rw frames)))
 
-  pub loaded_runs_so : (running : Bool) (fs : List Frame) {m : Vm} {s' : Stores} {fs' : List Frame} → load_machine_of running image s fs ≡ record { answer = st.Done m; stores = s'; frames = fs' }
-      → (l : Lent) → l.frames ≡ fs' → (g : ℕ) (x : RunResult) (l' : Lent) → Answers (by_entries s') m l g x l' → FaultsSo m s' l g l' x
+  pub loaded_runs_so : (running : Bool) (fs : List Frame) {m : Vm} {s' : Stores} {fs' : List Frame} → load_machine_of running image s fs ≡ record { answer = Ok m; stores = s'; frames = fs' }
+      → (l : Lent) → l.frames ≡ fs' → (g : ℕ) (x : Result Halt Refusal) (l' : Lent) → Answers (by_entries s') m l g x l' → FaultsSo m s' l g l' x
   unfolding load_machine_of unless_running load_of load_judged
   loaded_runs_so true fs e l f g x l' answer = absurd (not_done (ap (λ (y : StartRes). y.answer) e))
   loaded_runs_so false fs {m} {s'} e l f g x l' answer =
@@ -130,27 +129,27 @@ module _ (image : List ℕ) (s : Stores) (bytes : Bytes image) (p : Program) (j 
 -- ---- the same for a host in C
 
 -- not a refusal
-abbrev IsRun : RunResult → Type 0
-IsRun (r.Value m v n) = Unit
-IsRun (r.Continue m n) = Unit
-IsRun (r.Fault m k n j) = Unit
-IsRun (r.Paused m) = Unit
-IsRun (r.Refused n) = ⊥
+abbrev IsRun : Result Halt Refusal → Type 0
+IsRun (Ok (r.Value m v n)) = Unit
+IsRun (Ok (r.Continue m n)) = Unit
+IsRun (Ok (r.Fault m k n j)) = Unit
+IsRun (Ok (r.Paused m)) = Unit
+IsRun (Err e) = ⊥
 
 -- what is called from C and not refused is called through the entry
 module _ {s : Stores} where
-  part_from_C : {c : RunCall} {m : Vm} {l : Lent} {x : RunResult} {l' : Lent} → FromC s c m l x l' → IsRun x → by_entries s c m l x l'
+  part_from_C : {c : RunCall} {m : Vm} {l : Lent} {x : Result Halt Refusal} {l' : Lent} → FromC s c m l x l' → IsRun x → by_entries s c m l x l'
   part_from_C {c} {m} {l} {x} {l'} h ran = by (slices_refusal h.words 5 h.answer) refl
     where
       by : (n : ℕ) → slices_refusal h.words 5 h.answer ≡ n → RunPost c m s l x l'
-      by zero e = subst (λ (k : Vm). RunPost c k s l x l') h.is (subst (λ (y : RunResult). RunPost c (vm_in h.words) s l y l') h.result (h.run.runs e))
-      by (suc n) e = absurd (subst IsRun (sym h.result ∙ (h.run.refuses (λ y. omega (arith, e, y))).0) ran)
+      by zero e = subst (λ (k : Vm). RunPost c k s l x l') h.is (subst (λ (y : Result Halt Refusal). RunPost c (vm_in h.words) s l y l') h.result (h.run.runs e))
+      by (suc n) e = absurd (subst IsRun (sym h.result ∙ (h.run.refuses (λ y. omega (arith, e, y))).1) ran)
 
   under_way_from_C : {m : Vm} {l : Lent} {g : ℕ} {k : Vm} {l' : Lent} → UnderWay (FromC s) m l g k l' → UnderWay (by_entries s) m l g k l'
   under_way_from_C (begun part) = begun (part_from_C part tt)
   under_way_from_C (continued before part) = continued (under_way_from_C before) (part_from_C part tt)
 
-  answers_from_C : {m : Vm} {l : Lent} {g : ℕ} {x : RunResult} {l' : Lent} → Answers (FromC s) m l g x l' → IsRun x → Answers (by_entries s) m l g x l'
+  answers_from_C : {m : Vm} {l : Lent} {g : ℕ} {x : Result Halt Refusal} {l' : Lent} → Answers (FromC s) m l g x l' → IsRun x → Answers (by_entries s) m l g x l'
   answers_from_C (beginning part) ran = beginning (part_from_C part ran)
   answers_from_C (continuing before part) ran = continuing (under_way_from_C before) (part_from_C part ran)
   answers_from_C (abandoning before part) ran = abandoning (under_way_from_C before) (part_from_C part ran)
@@ -197,14 +196,14 @@ module _ (image w a heights : List ℕ) (s : Stores) (fs : List Frame) (bytes : 
   leaves_words (cw.idle off h) z = idle_leaves h z
 
   module _ {d : Coded} {hs : List ℕ} {s' : Stores} {fs' : List Frame} (h : CheckThrough image w a heights s fs d hs s' fs') (z : d.number ≡ 0) (l : Lent) (f : l.frames ≡ fs') where
-    pub host_runs_so : (g : ℕ) (x : RunResult) (l' : Lent) → Answers (FromC s') (vm_in d.vm) l g x l' → FaultsSo (vm_in d.vm) s' l g l' x
-    host_runs_so g (r.Value k v n) l' answer = tt
-    host_runs_so g (r.Continue k n) l' answer = tt
-    host_runs_so g (r.Fault k n did j) l' answer =
+    pub host_runs_so : (g : ℕ) (x : Result Halt Refusal) (l' : Lent) → Answers (FromC s') (vm_in d.vm) l g x l' → FaultsSo (vm_in d.vm) s' l g l' x
+    host_runs_so g (Ok (r.Value k v n)) l' answer = tt
+    host_runs_so g (Ok (r.Continue k n)) l' answer = tt
+    host_runs_so g (Ok (r.Fault k n did j)) l' answer =
         let left = leaves_words h z in
-        installed_runs_so (vm_in d.vm) s' l left.passed (left.installed l f) (r.Fault k n did j) (answers_from_C answer tt)
-    host_runs_so g (r.Paused k) l' answer = tt
-    host_runs_so g (r.Refused n) l' answer = tt
+        installed_runs_so (vm_in d.vm) s' l left.passed (left.installed l f) (Ok (r.Fault k n did j)) (answers_from_C answer tt)
+    host_runs_so g (Ok (r.Paused k)) l' answer = tt
+    host_runs_so g (Err e) l' answer = tt
 
     pub host_stays_within : StaysWithin (FromC s') (vm_in d.vm) s' l hs
     host_stays_within =

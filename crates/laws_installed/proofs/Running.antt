@@ -1,5 +1,5 @@
 -- A program that passed the check, installed: what a run then answers, however its units are dealt out, and how high the stack grows.
-use Rattle.std.specs.Prelude.{if◌then◌else◌}
+use Rattle.std.specs.Prelude.{if◌then◌else◌, Err, Ok, Result}
 use mathlib.Core.Path.{◌≡◌, refl, sym, ap, subst, ◌∙◌}
 use mathlib.Core.Bool.{Bool, true, false}
 use mathlib.Core.List.{List, [], ◌∷◌}
@@ -9,9 +9,7 @@ use lib.Dec.{ltb}
 use lib.ListN.{length, get_or}
 use Rattle.model.specs.declared.Frame.{Frame}
 use Rattle.model.specs.declared.Vm.{Vm}
-use Rattle.model.specs.declared.Changed.TheVariants as ch
-use Rattle.model.specs.declared.RunResult.{RunResult}
-use Rattle.model.specs.declared.RunResult.TheVariants as r
+use Rattle.model.specs.declared.Halt.TheVariants as r
 use Rattle.model.specs.Values.{places, vals, values_from}
 use Rattle.model.specs.Programs.{Program}
 use Rattle.model.specs.Stores.{Stores, constants_from, structs_from, program_in, world_in}
@@ -28,6 +26,9 @@ use Rattle.laws_check.specs.Good.{Serves, Waiting, Good}
 use Rattle.laws_check.specs.Passed.{JustLoaded, Parts}
 use Rattle.laws_check.proofs.Theorems.{a_fresh_machine_is_good, a_run_stays_good, passed_runs_so, passed_runs_ask_in_range, good_frames_fit}
 use Rattle.laws_installed.specs.Installed.{Installed, by_entries, UnderWay, begun, continued, Answers, beginning, continuing, abandoning, FaultsSo, Tells, PartsBelow, together, Within, StaysWithin}
+use Rattle.model.specs.declared.Halt.{Halt}
+use Rattle.model.specs.declared.Refusal.{Refusal}
+use Rattle.model.specs.declared.Refusal.TheVariants as why
 
 -- ---- as the theorems of the check ask for it
 
@@ -75,7 +76,7 @@ strictly b m = record { program = m.program; stack = m.stack; frames = m.frames;
 
 -- by what is judged
 set_installed : {p : Program} {m : Vm} {s : Stores} {l : Lent} → Installed p m s l → (b order on : Bool) {k : Vm}
-    → (if order then (if on then ch.Refused 25 else ch.Done (strictly b m)) else ch.Refused 19) ≡ ch.Done k → Installed p k s l
+    → (if order then (if on then Err why.RunUnderWay else Ok (strictly b m)) else Err why.NotInOrder) ≡ Ok k → Installed p k s l
 set_installed here b true true e = absurd (let z : ◌≡◌ {A = ℕ} 0 1 = cc in let y : ⊥ = omega arith in y)
 set_installed {p} {m} {s} {l} here b true false {k} e =
     let same : strictly b m ≡ k = cc in
@@ -83,7 +84,7 @@ set_installed {p} {m} {s} {l} here b true false {k} e =
     (record { main = here.main; program = here.program; stack = here.stack; frames = here.frames; frame = here.frame })
 set_installed here b false on e = absurd (let z : ◌≡◌ {A = ℕ} 0 1 = cc in let y : ⊥ = omega arith in y)
 
-pub a_setting_keeps_what_is_installed : {p : Program} {m : Vm} {s : Stores} {l : Lent} → Installed p m s l → (b : Bool) {k : Vm} → set_strict b m s l ≡ ch.Done k → Installed p k s l
+pub a_setting_keeps_what_is_installed : {p : Program} {m : Vm} {s : Stores} {l : Lent} → Installed p m s l → (b : Bool) {k : Vm} → set_strict b m s l ≡ Ok k → Installed p k s l
 unfolding set_strict
 a_setting_keeps_what_is_installed {m = m} {s} {l} here b e = set_installed here b (run_order m s l) m.run.on e
 
@@ -202,7 +203,7 @@ module _ (s : Stores) where
     same_end e = cc
 
     -- a part that ends the run, by a fault too: it is one run, given all the units
-    came_to_an_end : {g : ℕ} {x : RunResult} {l' : Lent} → Answers (by_entries s) m l g x l' → {c : Unchanged} {y : Ran} → answer_in l' x ≡ ran c (ends y)
+    came_to_an_end : {g : ℕ} {x : Result Halt Refusal} {l' : Lent} → Answers (by_entries s) m l g x l' → {c : Unchanged} {y : Ran} → answer_in l' x ≡ ran c (ends y)
         → run_of (world_of m s l) (machine_in m l) g ≡ y
     unfolding begin_of
     came_to_an_end (beginning post) e = over_is_one (world_of m s l) (machine_in m l) 0 (sym (part_is begins m s l (sym e ∙ post.answer)).1)
@@ -214,11 +215,11 @@ module _ (s : Stores) where
 
 -- "faults 1 to 4 and 14 never come, and 6 comes only from GetUpvalue or a field"
 module _ (m : Vm) (s : Stores) (l : Lent) {g : ℕ} {l' : Lent} where
-  pub installed_runs_so : {p : Program} → Passed p → Installed p m s l → (x : RunResult) → Answers (by_entries s) m l g x l' → FaultsSo m s l g l' x
+  pub installed_runs_so : {p : Program} → Passed p → Installed p m s l → (x : Result Halt Refusal) → Answers (by_entries s) m l g x l' → FaultsSo m s l g l' x
   unfolding answer_in
-  installed_runs_so ok here (r.Value k v n) h = tt
-  installed_runs_so ok here (r.Continue k n) h = tt
-  installed_runs_so {p} ok here (r.Fault k n did j) h =
+  installed_runs_so ok here (Ok (r.Value k v n)) h = tt
+  installed_runs_so ok here (Ok (r.Continue k n)) h = tt
+  installed_runs_so {p} ok here (Ok (r.Fault k n did j)) h =
       let w = world_of m s l in
       let x = machine_in m l in
       let es = entries_in j 0 l'.backtrace in
@@ -226,8 +227,8 @@ module _ (m : Vm) (s : Stores) (l : Lent) {g : ℕ} {l' : Lent} where
         passed_runs_so p ok w (serves_it here) x (just_loaded here) g n did es said,
         λ e. passed_runs_ask_in_range p ok w (serves_it here) x (just_loaded here) g did es (subst (λ (i : ℕ). (run_of w x g).reply ≡ fault i did es) e said),
       )
-  installed_runs_so ok here (r.Paused k) h = tt
-  installed_runs_so ok here (r.Refused n) h = tt
+  installed_runs_so ok here (Ok (r.Paused k)) h = tt
+  installed_runs_so ok here (Err e) h = tt
 
 -- ---- how high the stack grows
 

@@ -1,9 +1,8 @@
 -- WHAT IS SAID of a rule that passed the check, once it is installed and run through the entries.
-use Rattle.std.specs.Prelude.{◌≡◌, false, List, [], ◌∷◌, ℕ, ◌+◌, ◌≤◌, ◌<◌, length, get_or}
+use Rattle.std.specs.Prelude.{◌≡◌, false, List, [], ◌∷◌, ℕ, ◌+◌, ◌≤◌, ◌<◌, length, get_or, Err, Ok, Result}
 use Rattle.model.specs.declared.Frame.{Frame}
 use Rattle.model.specs.declared.Vm.{Vm}
-use Rattle.model.specs.declared.RunResult.{RunResult}
-use Rattle.model.specs.declared.RunResult.TheVariants as r
+use Rattle.model.specs.declared.Halt.TheVariants as r
 use Rattle.model.specs.Programs.{Program}
 use Rattle.model.specs.Stores.{Stores, program_in}
 use Rattle.model.specs.Steps.{State}
@@ -13,6 +12,8 @@ use Rattle.laws_runs.specs.Paths.{Steps, more}
 use Rattle.embed_words.specs.Coding.{Coded, vm_in, RunThrough}
 use Rattle.check_rules.specs.Rules.{Greatest, code_of, count_of, is_main}
 use Rattle.laws_check.specs.Passed.{ruled_out, Asked}
+use Rattle.model.specs.declared.Halt.{Halt}
+use Rattle.model.specs.declared.Refusal.{Refusal}
 
 -- the counts and the program's stores stand for p, and the machine over them has not run: nothing on its stack, one frame at the start of main.
 -- Its cells, its last result and all that is lent besides are any, and it is strict or not
@@ -27,14 +28,14 @@ pub record Installed (p : Program) (m : Vm) (s : Stores) (l : Lent) : Type 0 whe
 
 -- how a host calls a part of a run: which call, on which machine, over what is lent; what it answers, and what is lent as it then is
 abbrev pub Calling : Type 1
-Calling = RunCall → Vm → (lent : Lent) → RunResult → (left : Lent) → Type 0
+Calling = RunCall → Vm → (lent : Lent) → Result Halt Refusal → (left : Lent) → Type 0
 
 -- through the machine's own entries
 abbrev pub by_entries : Stores → Calling
 by_entries s c m l x l' = RunPost c m s l x l'
 
 -- from C: the words that the host hands in stand for the machine
-pub record FromC (s : Stores) (c : RunCall) (m : Vm) (l : Lent) (x : RunResult) (l' : Lent) : Type 0 where
+pub record FromC (s : Stores) (c : RunCall) (m : Vm) (l : Lent) (x : Result Halt Refusal) (l' : Lent) : Type 0 where
   pub words : List ℕ
   pub answer : List ℕ
   pub is : vm_in words ≡ m
@@ -44,22 +45,22 @@ pub record FromC (s : Stores) (c : RunCall) (m : Vm) (l : Lent) (x : RunResult) 
 
 -- a run that was begun by m over l is paused: it was given g units in all, k is the machine, and l' what is lent as it then is
 pub data UnderWay (Part : Calling) (m : Vm) (l : Lent) : (g : ℕ) → Vm → Lent → Type 0 where
-  begun : {k : Vm} {l' : Lent} → Part begins m l (r.Paused k) l' → UnderWay Part m l 0 k l'
-  continued : {g u : ℕ} {k k' : Vm} {l₁ l' : Lent} → UnderWay Part m l g k l₁ → Part (continues u) k l₁ (r.Paused k') l' → UnderWay Part m l (g + u) k' l'
+  begun : {k : Vm} {l' : Lent} → Part begins m l (Ok (r.Paused k)) l' → UnderWay Part m l 0 k l'
+  continued : {g u : ℕ} {k k' : Vm} {l₁ l' : Lent} → UnderWay Part m l g k l₁ → Part (continues u) k l₁ (Ok (r.Paused k')) l' → UnderWay Part m l (g + u) k' l'
 
 -- what a part of such a run answers; it was given g units in all, with this part
-pub data Answers (Part : Calling) (m : Vm) (l : Lent) : (g : ℕ) → RunResult → Lent → Type 0 where
-  beginning : {x : RunResult} {l' : Lent} → Part begins m l x l' → Answers Part m l 0 x l'
-  continuing : {g u : ℕ} {k : Vm} {x : RunResult} {l₁ l' : Lent} → UnderWay Part m l g k l₁ → Part (continues u) k l₁ x l' → Answers Part m l (g + u) x l'
-  abandoning : {g : ℕ} {k : Vm} {x : RunResult} {l₁ l' : Lent} → UnderWay Part m l g k l₁ → Part abandons k l₁ x l' → Answers Part m l g x l'
+pub data Answers (Part : Calling) (m : Vm) (l : Lent) : (g : ℕ) → Result Halt Refusal → Lent → Type 0 where
+  beginning : {x : Result Halt Refusal} {l' : Lent} → Part begins m l x l' → Answers Part m l 0 x l'
+  continuing : {g u : ℕ} {k : Vm} {x : Result Halt Refusal} {l₁ l' : Lent} → UnderWay Part m l g k l₁ → Part (continues u) k l₁ x l' → Answers Part m l (g + u) x l'
+  abandoning : {g : ℕ} {k : Vm} {x : Result Halt Refusal} {l₁ l' : Lent} → UnderWay Part m l g k l₁ → Part abandons k l₁ x l' → Answers Part m l g x l'
 
 -- "faults 1 to 4 and 14 never come, and 6 comes only from GetUpvalue or a field": of what a part answers, with what it leaves; g units were given in all
-abbrev pub FaultsSo : Vm → Stores → (lent : Lent) (g : ℕ) (left : Lent) → RunResult → Type 0
-FaultsSo m s l g l' (r.Value k v n) = Unit
-FaultsSo m s l g l' (r.Continue k n) = Unit
-FaultsSo m s l g l' (r.Fault k n did j) = (ruled_out n ≡ false) × (n ≡ 6 → Asked (world_of m s l) (machine_in m l) g did (entries_in j 0 l'.backtrace))
-FaultsSo m s l g l' (r.Paused k) = Unit
-FaultsSo m s l g l' (r.Refused n) = Unit
+abbrev pub FaultsSo : Vm → Stores → (lent : Lent) (g : ℕ) (left : Lent) → Result Halt Refusal → Type 0
+FaultsSo m s l g l' (Ok (r.Value k v n)) = Unit
+FaultsSo m s l g l' (Ok (r.Continue k n)) = Unit
+FaultsSo m s l g l' (Ok (r.Fault k n did j)) = (ruled_out n ≡ false) × (n ≡ 6 → Asked (world_of m s l) (machine_in m l) g did (entries_in j 0 l'.backtrace))
+FaultsSo m s l g l' (Ok (r.Paused k)) = Unit
+FaultsSo m s l g l' (Err e) = Unit
 
 -- ---- how high its stack grows
 

@@ -1,11 +1,11 @@
 -- A run of two machines that mean the same: the same answer by meaning, and machines that mean the same again, after a fault too.
+use Rattle.std.specs.Prelude.{Option}
 use mathlib.Core.Path.{◌≡◌, refl, sym, ap, subst, ◌∙◌}
 use mathlib.Core.Bool.{Bool, true, false}
 use mathlib.Core.List.{List, ◌∷◌, map}
 use Prim.Native.Nat.{ℕ, zero, suc, ◌+◌}
 use lib.ListN.{length}
 use Rattle.model.specs.declared.Value.{Value}
-use Rattle.model.specs.declared.Last.{Last}
 use Rattle.model.specs.declared.Fault.{Fault}
 use Rattle.model.specs.declared.Tally.{Tally}
 use Rattle.model.specs.Values.{fault_number}
@@ -57,11 +57,11 @@ marks_grow w m s g (stopped n t k) r = mark_grows w g r.path
 marks_grow w m s g (paused k t) r = mark_grows w g r.path
 
 module _ (w : World) (lay : Layout) (good : SaneWorld w) (beside-good : SaneWorld (laid_out lay w)) (same_constants : AlikeConstants w lay) where
-  answer_alike : {l l' : Last} {s s' : State} → AlikeState w lay s s' → Answers s s' l l' → AlikeLast w.text lay.text s.heap s'.heap l l'
+  answer_alike : {l l' : Option Value} {s s' : State} → AlikeState w lay s s' → Answers s s' l l' → AlikeLast w.text lay.text s.heap s'.heap l l'
   answer_alike a (not_yet q q') = rw (q, q') nothing
   answer_alike a (latest q q') = rw (q, q') a.machine.last
 
-  still : {l l' : Last} {s s' t t' : State} → t.last ≡ s.last → t'.last ≡ s'.last → Answers s s' l l' → Answers t t' l l'
+  still : {l l' : Option Value} {s s' t t' : State} → t.last ≡ s.last → t'.last ≡ s'.last → Answers s s' l l' → Answers t t' l l'
   still p p' (not_yet q q') = not_yet q q'
   still p p' (latest q q') = latest (q ∙ sym p) (q' ∙ sym p')
 
@@ -100,7 +100,7 @@ module _ (w : World) (lay : Layout) (good : SaneWorld w) (beside-good : SaneWorl
 
   -- ---- parts of runs
 
-  answered_alike : {l l' : Last} {H H' : List Cell} (j : Tally) → AlikeLast w.text lay.text H H' l l' → meant_in w.text H (answered l j) ≡ meant_in lay.text H' (answered l' j)
+  answered_alike : {l l' : Option Value} {H H' : List Cell} (j : Tally) → AlikeLast w.text lay.text H H' l l' → meant_in w.text H (answered l j) ≡ meant_in lay.text H' (answered l' j)
   unfolding meant_in answered
   answered_alike j nothing = refl
   answered_alike j (is b) = rw b

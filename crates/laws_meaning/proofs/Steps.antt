@@ -1,9 +1,9 @@
 -- A step of two machines that mean the same: the one induction over the opcodes.
-use Rattle.std.specs.Prelude.{if◌then◌else◌}
+use Rattle.std.specs.Prelude.{if◌then◌else◌, Option, Result}
 use mathlib.Core.Path.{◌≡◌, refl, sym, ◌∙◌}
 use mathlib.Core.Bool.{Bool, true, false, ◌&&◌}
 use mathlib.Core.List.{List, [], ◌∷◌}
-use mathlib.Core.Option.{Option, none, some}
+use mathlib.Core.Option.{Option as Maybe, none, some}
 use Prim.Native.Nat.{ℕ, suc, ◌+◌, ◌-◌, ◌*◌}
 use native.Mathlib.Omega.{arith}
 use borrow.Author.Tests.{ltb-true}
@@ -16,10 +16,8 @@ use Rattle.model.specs.declared.Decoded.{Decoded}
 use Rattle.model.specs.declared.Decoded.TheVariants as d
 use Rattle.model.specs.declared.Value.{Value}
 use Rattle.model.specs.declared.Value.TheVariants as v
-use Rattle.model.specs.declared.Last.{Last}
 use Rattle.model.specs.declared.Fault.{Fault}
 use Rattle.model.specs.declared.Fault.TheVariants as f
-use Rattle.model.specs.declared.Found.{Found}
 use Rattle.model.specs.declared.Frame.{Frame}
 use Rattle.model.specs.Values.{fault_number, text_at, if_scalar, if_boolean, if_reference, if_struct, popping, popping_scalar, popping_boolean}
 use Rattle.model.specs.Scalars.{zero_divisor, result_of}
@@ -43,7 +41,7 @@ made_alike : {t t' : List ℕ} {n n' : ℕ} {H H' K K' : List Cell} {c : ℕ →
 made_alike list g = g.list refl
 made_alike (struct i) g = g.struct
 
-result_alike : {t t' : List ℕ} {H H' : List Cell} {l l' : Last} → BothLast t t' H H' l l' → BothFound t t' H H' (last_of l) (last_of l')
+result_alike : {t t' : List ℕ} {H H' : List Cell} {l l' : Option Value} → BothLast t t' H H' l l' → BothFound t t' H H' (last_of l) (last_of l')
 unfolding last_of
 result_alike nothing = bad _
 result_alike (is b) = got b
@@ -53,7 +51,7 @@ unfolding heap_ok blocks_from
 no_cells t = refl
 
 -- s with another stack, other cells and another last result
-abbrev beside : State → List Value → List Cell → Last → State
+abbrev beside : State → List Value → List Cell → Option Value → State
 beside s vs H l = record { stack = vs; frame = s.frame; callers = s.callers; heap = H; last = l; spent = s.spent; units = s.units }
 
 -- s when e units are spent and u are left
@@ -61,7 +59,7 @@ abbrev dealing : (e u : ℕ) → State → State
 dealing e u s = record { stack = s.stack; frame = s.frame; callers = s.callers; heap = s.heap; last = s.last; spent = e; units = u }
 
 -- they mean the same
-record Beside (w : World) (lay : Layout) (s : State) (vs' : List Value) (H' : List Cell) (l' : Last) : Type 0 where
+record Beside (w : World) (lay : Layout) (s : State) (vs' : List Value) (H' : List Cell) (l' : Option Value) : Type 0 where
   left : heap_ok (length w.text) s.heap ≡ true
   right : heap_ok (length lay.text) H' ≡ true
   stack : Boths w.text lay.text s.heap H' s.stack vs'
@@ -69,7 +67,7 @@ record Beside (w : World) (lay : Layout) (s : State) (vs' : List Value) (H' : Li
   free : SameFree w.cell_room lay.cell_room s.heap H'
 
 module _ (w : World) (lay : Layout) (good : SaneWorld w) (beside-good : SaneWorld (laid_out lay w)) (same_constants : AlikeConstants w lay) (s : State)
-    (vs' : List Value) (H' : List Cell) (l' : Last) (sides : Beside w lay s vs' H' l') where
+    (vs' : List Value) (H' : List Cell) (l' : Option Value) (sides : Beside w lay s vs' H' l') where
   abbrev other : State
   other = beside s vs' H' l'
 
@@ -147,8 +145,8 @@ module _ (w : World) (lay : Layout) (good : SaneWorld w) (beside-good : SaneWorl
   reference_alike lists k k' p q = q
   reference_alike (structs h) k k' p q = q
 
-  struct_alike : {x x' : Value} → Kinds w.text lay.text s.heap H' x x' → B x x' → (k k' : Found → Outcome) (i : ℕ) {y y' : Outcome}
-      → ((z z' : Found) → BothFound w.text lay.text s.heap H' z z' → R (k z) (k' z')) → R y y'
+  struct_alike : {x x' : Value} → Kinds w.text lay.text s.heap H' x x' → B x x' → (k k' : Result Value Fault → Outcome) (i : ℕ) {y y' : Outcome}
+      → ((z z' : Result Value Fault) → BothFound w.text lay.text s.heap H' z z' → R (k z) (k' z')) → R y y'
       → R (if_struct x (λ j. k (field_of s.heap j i)) y) (if_struct x' (λ j. k' (field_of H' j i)) y')
   unfolding if_struct
   struct_alike (scalars z) b k k' i p q = q
@@ -171,7 +169,7 @@ module _ (w : World) (lay : Layout) (good : SaneWorld w) (beside-good : SaneWorl
   unfolding popping_boolean
   popping_boolean_alike k k' b p = popping_alike b (λ x x' q q' c bs. boolean_alike (kind_of_lem c) _ _ (λ z. p z q q' bs) (wrong x x'))
 
-  found_alike : {x x' : Found} (k k' : Value → Outcome) → BothFound w.text lay.text s.heap H' x x' → ((z z' : Value) → B z z' → R (k z) (k' z')) → R (on_found x s k) (on_found x' other k')
+  found_alike : {x x' : Result Value Fault} (k k' : Value → Outcome) → BothFound w.text lay.text s.heap H' x x' → ((z z' : Value) → B z z' → R (k z) (k' z')) → R (on_found x s k) (on_found x' other k')
   unfolding on_found
   found_alike k k' (got b) p = p _ _ b
   found_alike k k' (bad i) p = halt i
@@ -204,7 +202,7 @@ module _ (w : World) (lay : Layout) (good : SaneWorld w) (beside-good : SaneWorl
       (if_each R (ltb (length r) k) (λ h. halt f.TooFewValues)
       (λ h. if_each R (leb w.frame_room (suc (length s.callers))) (λ h'. halt f.FramesFull) (λ h'. goes (framed _ (s.frame ∷ s.callers) b))))
 
-  named_alike : (k : ℕ) (x : Option ℕ) {r r' : List Value} → Bs r r' → R (enter_named w k r s x) (enter_named (laid_out lay w) k r' other x)
+  named_alike : (k : ℕ) (x : Maybe ℕ) {r r' : List Value} → Bs r r' → R (enter_named w k r s x) (enter_named (laid_out lay w) k r' other x)
   unfolding enter_named
   named_alike k none b = halt f.NoFunction
   named_alike k (some i) b = enter_alike i k b
@@ -304,7 +302,7 @@ module _ (w : World) (lay : Layout) (good : SaneWorld w) (beside-good : SaneWorl
 
 -- ---- a step
 
-module _ (w : World) (lay : Layout) (good : SaneWorld w) (beside-good : SaneWorld (laid_out lay w)) (same_constants : AlikeConstants w lay) (vs' : List Value) (H' : List Cell) (l' : Last) where
+module _ (w : World) (lay : Layout) (good : SaneWorld w) (beside-good : SaneWorld (laid_out lay w)) (same_constants : AlikeConstants w lay) (vs' : List Value) (H' : List Cell) (l' : Option Value) where
   abbrev C : State → Type 0
   C s = Beside w lay s vs' H' l'
 

@@ -1,5 +1,5 @@
 -- Values that mean the same are of one kind, equally deep, compare alike, and their elements mean the same.
-use Rattle.std.specs.Prelude.{if◌then◌else◌}
+use Rattle.std.specs.Prelude.{if◌then◌else◌, Err, None, Ok, Option, Result, Some}
 use mathlib.Core.Path.{◌≡◌, refl, sym, ap, ◌∙◌}
 use mathlib.Core.Bool.{Bool, true, false}
 use mathlib.Core.List.{List, [], ◌∷◌, reverse_aux}
@@ -11,11 +11,7 @@ use lib.ListN.{length, get_or, take, drop}
 use lib.Ieee.{Float}
 use Rattle.model.specs.declared.Value.{Value}
 use Rattle.model.specs.declared.Value.TheVariants as v
-use Rattle.model.specs.declared.Last.{Last}
-use Rattle.model.specs.declared.Last.TheVariants.{Nothing, Is}
 use Rattle.model.specs.declared.Fault.{Fault}
-use Rattle.model.specs.declared.Found.{Found}
-use Rattle.model.specs.declared.Found.TheVariants as g
 use Rattle.model.specs.Values.{text_at}
 use Rattle.model.specs.Heap.{Cell, item_in, head_in, items, elements_in, field_of, depth_in, deepest, heap_ok}
 use Rattle.model.specs.Trees.{Tree, scalar, boolean, string, reference, list, struct, Trees, none, more, trees_of, tree_of, meaning}
@@ -112,9 +108,9 @@ pub data Boths (t t' : List ℕ) (H H' : List Cell) : List Value → List Value 
   empty : Boths t t' H H' [] []
   over : {x x' : Value} {xs xs' : List Value} → Both t t' H H' x x' → Boths t t' H H' xs xs' → Boths t t' H H' (x ∷ xs) (x' ∷ xs')
 
-pub data BothLast (t t' : List ℕ) (H H' : List Cell) : Last → Last → Type 0 where
-  nothing : BothLast t t' H H' Nothing Nothing
-  is : {x x' : Value} → Both t t' H H' x x' → BothLast t t' H H' (Is x) (Is x')
+pub data BothLast (t t' : List ℕ) (H H' : List Cell) : Option Value → Option Value → Type 0 where
+  nothing : BothLast t t' H H' None None
+  is : {x x' : Value} → Both t t' H H' x x' → BothLast t t' H H' (Some x) (Some x')
 
 module _ {t t' : List ℕ} {H H' : List Cell} where
   pub boths_of : {xs xs' : List Value} → AlikeValues t t' H H' xs xs' → AllPlaced (length t) H xs → AllPlaced (length t') H' xs' → Boths t t' H H' xs xs'
@@ -122,7 +118,7 @@ module _ {t t' : List ℕ} {H H' : List Cell} where
   boths_of a.none p q = empty
   boths_of (a.more h hs) p q = over (record { alike = h; left = p.0; right = q.0 }) (boths_of hs p.1 q.1)
 
-  pub last_of_lem : {l l' : Last} → AlikeLast t t' H H' l l' → LastPlaced (length t) H l → LastPlaced (length t') H' l' → BothLast t t' H H' l l'
+  pub last_of_lem : {l l' : Option Value} → AlikeLast t t' H H' l l' → LastPlaced (length t) H l → LastPlaced (length t') H' l' → BothLast t t' H H' l l'
   unfolding LastPlaced
   last_of_lem a.nothing p q = nothing
   last_of_lem (a.is h) p q = is (record { alike = h; left = p; right = q })
@@ -133,18 +129,18 @@ module _ {t t' : List ℕ} {H H' : List Cell} where
     values_on empty = a.none
     values_on (over b bs) = a.more (on _ _ b) (values_on bs)
 
-    pub last_on : {l l' : Last} → BothLast t t' H H' l l' → AlikeLast u u' K K' l l'
+    pub last_on : {l l' : Option Value} → BothLast t t' H H' l l' → AlikeLast u u' K K' l l'
     last_on nothing = a.nothing
     last_on (is b) = a.is (on _ _ b)
 
 -- a constant, a slot, the last result or a field
-pub data BothFound (t t' : List ℕ) (H H' : List Cell) : Found → Found → Type 0 where
-  got : {x x' : Value} → Both t t' H H' x x' → BothFound t t' H H' (g.Got x) (g.Got x')
-  bad : (n : Fault) → BothFound t t' H H' (g.Bad n) (g.Bad n)
+pub data BothFound (t t' : List ℕ) (H H' : List Cell) : Result Value Fault → Result Value Fault → Type 0 where
+  got : {x x' : Value} → Both t t' H H' x x' → BothFound t t' H H' (Ok x) (Ok x')
+  bad : (n : Fault) → BothFound t t' H H' (Err n) (Err n)
 
 -- found by the same test
 pub found_if : (t t' : List ℕ) (H H' : List Cell) (b : Bool) (x x' : Value) (n : Fault) → (b ≡ true → Both t t' H H' x x')
-    → BothFound t t' H H' (if b then g.Got x else g.Bad n) (if b then g.Got x' else g.Bad n)
+    → BothFound t t' H H' (if b then Ok x else Err n) (if b then Ok x' else Err n)
 found_if t t' H H' true x x' n f = got (f refl)
 found_if t t' H H' false x x' n f = bad n
 

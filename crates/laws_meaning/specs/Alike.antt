@@ -1,8 +1,6 @@
 -- Machines that mean the same: their texts and cells may stand at other places, and other cells may be taken, as long as as many are free.
-use Rattle.std.specs.Prelude.{◌≡◌, true, List, [], ◌∷◌, ℕ, ◌+◌, length}
+use Rattle.std.specs.Prelude.{◌≡◌, true, List, [], ◌∷◌, ℕ, ◌+◌, length, None, Option, Some}
 use Rattle.model.specs.declared.Value.{Value}
-use Rattle.model.specs.declared.Last.{Last}
-use Rattle.model.specs.declared.Last.TheVariants.{Nothing, Is}
 use Rattle.model.specs.declared.Fault.{Fault}
 use Rattle.model.specs.Values.{fault_number}
 use Rattle.model.specs.Heap.{Cell, placed_below}
@@ -19,9 +17,9 @@ pub data AlikeValues (t t' : List ℕ) (H H' : List Cell) : List Value → List 
   none : AlikeValues t t' H H' [] []
   more : {x x' : Value} {xs xs' : List Value} → AlikeValue t t' H H' x x' → AlikeValues t t' H H' xs xs' → AlikeValues t t' H H' (x ∷ xs) (x' ∷ xs')
 
-pub data AlikeLast (t t' : List ℕ) (H H' : List Cell) : Last → Last → Type 0 where
-  nothing : AlikeLast t t' H H' Nothing Nothing
-  is : {x x' : Value} → AlikeValue t t' H H' x x' → AlikeLast t t' H H' (Is x) (Is x')
+pub data AlikeLast (t t' : List ℕ) (H H' : List Cell) : Option Value → Option Value → Type 0 where
+  nothing : AlikeLast t t' H H' None None
+  is : {x x' : Value} → AlikeValue t t' H H' x x' → AlikeLast t t' H H' (Some x) (Some x')
 
 -- and each is placed in its heap
 pub record Both (t t' : List ℕ) (H H' : List Cell) (x x' : Value) : Type 0 where
@@ -90,8 +88,8 @@ pub record AlikeMark (w : World) (o : Layout) (k k' : Progress) : Type 0 where
   pub returns : k.returns ≡ k'.returns
 
 -- the answers so far: none on either side, or the last results
-pub data Answers (s s' : State) (l l' : Last) : Type 0 where
-  not_yet : l ≡ Nothing → l' ≡ Nothing → Answers s s' l l'
+pub data Answers (s s' : State) (l l' : Option Value) : Type 0 where
+  not_yet : l ≡ None → l' ≡ None → Answers s s' l l'
   latest : l ≡ s.last → l' ≡ s'.last → Answers s s' l l'
 
 pub record AlikeUnder (w : World) (o : Layout) (r r' : Under) : Type 0 where

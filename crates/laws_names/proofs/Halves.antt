@@ -1,6 +1,5 @@
 -- A search by halves among names in order.
-use Rattle.std.specs.Prelude.{if◌then◌else◌}
-use mathlib.Core.Path.{◌≡◌, sym, ◌∙◌}
+use mathlib.Core.Path.{◌≡◌, sym}
 use mathlib.Core.Bool.{Bool, true, false, ◌&&◌}
 use mathlib.Core.List.{List}
 use mathlib.Mathlib.Data.Bool.Basic.{and_elim_left as and_left, and_elim_right as and_right}
@@ -80,14 +79,6 @@ pub record Halving (n : ℕ) (f : ℕ → List ℕ) (t : List ℕ) (low high : �
   pub below : (i : ℕ) → suc i ≡ low → before (f i) t ≡ true
   pub there : high < n → before (f high) t ≡ false
 
-pub halving_start : (n : ℕ) (f : ℕ → List ℕ) (t : List ℕ) → Halving n f t 0 n
-halving_start n f t = record {
-  order = omega arith;
-  most = omega arith;
-  below = λ i e. absurd (let y : ⊥ = omega arith in y);
-  there = λ h. absurd (let y : ⊥ = omega arith in y);
-}
-
 module _ (n : ℕ) (f : ℕ → List ℕ) (t : List ℕ) (low high : ℕ) (h : Halving n f t low high) where
   pub halving_met : high ≤ low → Edge n f t low
   halving_met l =
@@ -109,14 +100,6 @@ module _ (n : ℕ) (f : ℕ → List ℕ) (t : List ℕ) (low high : ℕ) (h : H
 
     pub halving_down : before (f mid) t ≡ false → Halving n f t low mid
     halving_down e = record { order = omega arith; most = let m = h.most in omega arith; below = h.below; there = λ _. e }
-
-    -- one turn: of the two halves the one where the name belongs
-    module _ (b : Bool) (eb : b ≡ before (f mid) t) (low' high' : ℕ) (el : low' ≡ (if b then mid + 1 else low)) (eh : high' ≡ (if b then high else mid)) where
-      pub halving_turn : Halving n f t low' high'
-      halving_turn = rw (el, eh) (either_way b (λ x. rw x (halving_up (sym eb ∙ x))) (λ x. rw x (halving_down (sym eb ∙ x))))
-
-      pub halving_less : high' - low' < high - low
-      halving_less = rw (el, eh) (either_way b (λ x. rw x (omega arith)) (λ x. rw x (omega arith)))
 
 -- what the test of a place says
 pub stands_yes : (at n : ℕ) (s : Bool) → (ltb at n && s) ≡ true → (at < n) × (s ≡ true)

@@ -120,9 +120,6 @@ pub record Moving (n at x : ℕ) (ss : List ℕ) (k carry : ℕ) (ss' : List ℕ
   pub same : length ss' ≡ length ss
   pub means : moved_up n at x ss ≡ moved_up n k carry ss'
 
-pub moving_start : (n at x : ℕ) (ss : List ℕ) → at ≤ n → Moving n at x ss at x ss
-moving_start n at x ss h = record { within = h; same = refl; means = refl }
-
 module _ (n at x : ℕ) (ss : List ℕ) (k carry : ℕ) (ss' : List ℕ) (h : Moving n at x ss k carry ss') where
   pub moving_next : k < n → (old : ℕ) → old ≡ get_or ss' (2 * k + 1) 0 → Moving n at x ss (k + 1) old (set ss' (2 * k + 1) carry)
   unfolding moved_up put_orders orders_from order_word payload_at

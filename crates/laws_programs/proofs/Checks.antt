@@ -13,10 +13,11 @@ use Rattle.model.specs.Equality.{same_bytes}
 use Rattle.model.specs.Stores.{start, size, part, struct_word, order_word, name_word, code_word, code_end}
 use Rattle.model.specs.Programs.{before, main_name}
 use Rattle.model.specs.Basics.{ascii, every_from}
-use Rattle.laws_programs.proofs.Every.{Judged, Passed}
+use Rattle.laws_programs.proofs.Every.{Judged}
 use Rattle.layout.proofs.Names.{name_here}
 use Rattle.model.specs.Orders.{counts_ok, text_ok, inside_text, constant_ok, constants_ok, name_in_order, structs_ok, code_start, function_ok, functions_ok, main_ok, main_taken, other_taken, inside_codes, program_ok}
-use Rattle.layout.specs.Links.{WholeIs}
+use Rattle.layout.specs.declared.lent.ProgramStores.{ProgramStores}
+use Rattle.layout.specs.Lent.{program_lent, stores_in}
 
 pub counts_is : (c : Counts) (last : Bool) → last ≡ eqb (suc c.current) c.functions
     → (leb c.constants 65535 && leb c.structs 65536 && leb 1 c.functions && leb c.functions 65536 && leb c.text 0xFFFF_FFFF && (eqb c.current 0 || last)) ≡ counts_ok c
@@ -53,10 +54,6 @@ pub constants_judged : (c : Counts) (cs : List ℕ) → Judged (constants_ok c c
 unfolding constants_ok
 constants_judged c cs = record { says = refl }
 
--- what the loop found of place i
-pub constant_here : (c : Counts) (cs : List ℕ) (i k a : ℕ) (b : Bool) → k ≡ kind_at cs i → a ≡ payload_at cs i → b ≡ constant_ok c k a → b ≡ constant_ok c (kind_at cs i) (payload_at cs i)
-constant_here c cs i k a b e f g = g ∙ rw (e, f)
-
 -- a struct name inside the text, and a number of a struct
 pub structs_judged : (c : Counts) (ss : List ℕ) → Judged (leb c.structs (places 2 ss) && every_from c.structs 0 (λ i. inside_text c (struct_word ss i) && ltb (order_word ss i) c.structs))
     c.structs (places 2 ss) (λ i. inside_text c (struct_word ss i) && ltb (order_word ss i) c.structs)
@@ -72,13 +69,6 @@ module _ (n : ℕ) (ss t : List ℕ) where
   abbrev pub ascending : ℕ → Bool
   ascending i = before (name_in_order ss t i) (name_in_order ss t (suc i))
 
-  pub none_ascend : n ≡ 0 → true ≡ every_from (n - 1) 0 ascending
-  unfolding every_from
-  none_ascend e = let z : n - 1 ≡ 0 = omega arith in rw z
-
-  pub ascend_start : (last : ℕ) → last ≡ n - 1 → Passed (every_from (n - 1) 0 ascending) last ascending 0
-  ascend_start last e = record { within = omega arith; means = let z : last - 0 ≡ last = omega arith in rw (z, e) }
-
   pub ascends_here : (i w v : ℕ) (p q : List ℕ) (b : Bool) → w ≡ struct_word ss (order_word ss i) → p ≡ part t w → v ≡ struct_word ss (order_word ss (i + 1)) → q ≡ part t v
       → b ≡ before p q → b ≡ ascending i
   ascends_here i w v p q b ew ep ev eq eb =
@@ -90,9 +80,9 @@ module _ (c : Counts) (ss t : List ℕ) (a : Bool) (e : a ≡ (leb c.structs (pl
   unfolding structs_ok
   structs_is h b f = rw (← e, h) f
 
-  pub structs_not : a ≡ false → false ≡ structs_ok c ss t
+  pub structs_not : a ≡ false → a ≡ structs_ok c ss t
   unfolding structs_ok
-  structs_not h = rw (← e, h)
+  structs_not h = h ∙ rw (← e, h)
 
 pub functions_judged : (c : Counts) (fs : List ℕ) → Judged (functions_ok c fs) c.functions (places 2 fs) (function_ok c fs)
 unfolding functions_ok
@@ -114,13 +104,12 @@ unfolding inside_codes main_taken other_taken
 codes_is c fs a b m o ea eb main other em eo = rw (ea, eb, em, eo)
 
 -- the whole, clause by clause
-pub whole_is : (c : Counts) (cs ss fs t : List ℕ) (m mp o op : ℕ) (b1 b2 b3 b4 b5 b6 b7 b8 : Bool)
-    → b1 ≡ counts_ok c → b2 ≡ text_ok c t → b3 ≡ constants_ok c cs → b4 ≡ structs_ok c ss t → b5 ≡ functions_ok c fs → b6 ≡ main_ok fs t
-    → ((x y : List ℕ) → length x ≡ m → length y ≡ o → b7 ≡ inside_codes c fs x y)
-    → ((x y : List ℕ) → length x ≡ mp → length y ≡ op → b8 ≡ inside_codes c fs x y)
-    → WholeIs c cs ss fs t m mp o op (b1 && b2 && b3 && b4 && b5 && b6 && b7 && b8)
-unfolding program_ok
-whole_is c cs ss fs t m mp o op b1 b2 b3 b4 b5 b6 b7 b8 e1 e2 e3 e4 e5 e6 e7 e8 = record {
-  is = λ s q1 q2 q3 q4 q5 q6 q7 q8.
-      rw (e1, e2, e3, e4, e5, e6, ← q1, ← q2, ← q3, ← q4) (rw (rw (← q3) at (e7 s.main s.other q5 q7), rw (← q3) at (e8 s.main_places s.other_places q6 q8)));
-}
+pub whole_is : (c : Counts) (p : ProgramStores) (b1 b2 b3 b4 b5 b6 b7 b8 : Bool)
+    → b1 ≡ counts_ok c → b2 ≡ text_ok c p.text.now → b3 ≡ constants_ok c p.constants.now → b4 ≡ structs_ok c p.structs.now p.text.now
+    → b5 ≡ functions_ok c p.functions.now → b6 ≡ main_ok p.functions.now p.text.now
+    → ((x y : List ℕ) → length x ≡ length p.main.now → length y ≡ length p.other.now → b7 ≡ inside_codes c p.functions.now x y)
+    → ((x y : List ℕ) → length x ≡ length p.main_places.now → length y ≡ length p.other_places.now → b8 ≡ inside_codes c p.functions.now x y)
+    → (b1 && b2 && b3 && b4 && b5 && b6 && b7 && b8) ≡ program_ok c (stores_in p)
+unfolding program_ok program_lent
+whole_is c p b1 b2 b3 b4 b5 b6 b7 b8 e1 e2 e3 e4 e5 e6 e7 e8 =
+    rw (e1, e2, e3, e4, e5, e6, e7 p.main.now p.other.now refl refl, e8 p.main_places.now p.other_places.now refl refl)

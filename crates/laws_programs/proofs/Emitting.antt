@@ -1,4 +1,5 @@
 -- Code emitted and patched, way by way.
+use Rattle.std.specs.Prelude.{Err, Ok}
 use mathlib.Core.Path.{◌≡◌, sym, ◌∙◌}
 use mathlib.Core.Bool.{Bool, true, false, not, ◌&&◌}
 use mathlib.Core.List.{List, []}
@@ -8,7 +9,7 @@ use native.Mathlib.Nat.{min-le_left, min-le_right}
 use lib.ListN.{length, set, replicate}
 use borrow.Author.Tests.{eq-eqb, ne_eqb, le-leb, lt-leb, lt-ltb, le-ltb, not-true, not-false}
 use Rattle.model.specs.declared.Counts.{Counts}
-use Rattle.model.specs.declared.Emitted.TheVariants.{Done, Refused}
+use Rattle.model.specs.declared.Refusal.TheVariants as why
 use Rattle.model.specs.Values.{places, payload_at}
 use Rattle.model.specs.Stores.{Stores, start, size, pack, code_word, code_end, code_here, places_here, with_code, with_functions, with_main, with_other}
 use Rattle.model.specs.Orders.{counts_ok, functions_ok, inside_codes}
@@ -80,11 +81,11 @@ module _ (c : Counts) (m mp o op : List ℕ) (r n : ℕ) (e : (rest : Stores) (f
   lent_other z = fits_other c (code_lent none [] m mp o op) r n (e none []) h z
 
 module _ (running : Bool) (c : Counts) (p : ℕ) (bytes : List ℕ) (place : ℕ) (s : Stores) (b : Bool) (e : b ≡ code_order c s) where
-  pub emit_19 : not b ≡ true → Is (emit_of running c p bytes place s) (Refused 19) s
+  pub emit_19 : not b ≡ true → Is (emit_of running c p bytes place s) (Err why.NotInOrder) s
   unfolding emit_of
   emit_19 h = record { means = rw (← e, not-true b h) }
 
-  pub emit_25 : not b ≡ false → running ≡ true → Is (emit_of running c p bytes place s) (Refused 25) s
+  pub emit_25 : not b ≡ false → running ≡ true → Is (emit_of running c p bytes place s) (Err why.RunUnderWay) s
   unfolding emit_of
   emit_25 h r = record { means = rw (← e, not-false b h, r) }
 
@@ -101,7 +102,7 @@ module _ (running : Bool) (c : Counts) (p : ℕ) (bytes : List ℕ) (place : ℕ
     unfolding end_here code_end code_word
     end_is = rw (ea, en, ew)
 
-    pub emit_22 : 65535 - n < length bytes → Is (emit_of running c p bytes place s) (Refused 22) s
+    pub emit_22 : 65535 - n < length bytes → Is (emit_of running c p bytes place s) (Err why.OverLimit) s
     unfolding emit_in
     emit_22 g = let z : 65535 < n + length bytes = omega arith in record { means = sym (entered ∙ rw (← size_is, lt-ltb _ _ z)) }
 
@@ -109,12 +110,12 @@ module _ (running : Bool) (c : Counts) (p : ℕ) (bytes : List ℕ) (place : ℕ
       short : n + length bytes ≤ 65535
       short = let k = size_short c s.functions (current_known c s b e h) word n ew en in omega arith
 
-      pub emit_21 : r < at + n + length bytes → Is (emit_of running c p bytes place s) (Refused 21) s
+      pub emit_21 : r < at + n + length bytes → Is (emit_of running c p bytes place s) (Err why.StoreFull) s
       unfolding emit_in
       emit_21 l = record { means = sym (entered ∙ rw (← size_is, le-ltb _ _ short, ← end_is, ← er, lt-ltb _ _ l)) }
 
       module _ (l : at + n + length bytes ≤ r) where
-        pub emit_1 : 38 ≤ p → Is (emit_of running c p bytes place s) (Refused 1) s
+        pub emit_1 : 38 ≤ p → Is (emit_of running c p bytes place s) (Err why.UnknownOpcode) s
         unfolding emit_in
         emit_1 q = record { means = sym (entered ∙ rw (← size_is, le-ltb _ _ short, ← end_is, ← er, le-ltb _ _ l, le-leb _ _ q)) }
 
@@ -128,12 +129,12 @@ module _ (running : Bool) (c : Counts) (p : ℕ) (bytes : List ℕ) (place : ℕ
           longer_is = ef ∙ rw (ep, ea, ew, size_is)
 
           pub emitted_main : c.current ≡ 0 → code ≡ written s.main (at + n) bytes → places ≡ written s.main_places (at + n) (replicate (length bytes) place)
-              → Is (emit_of running c p bytes place s) (Done c 0) (with_functions fs (with_main code places s))
+              → Is (emit_of running c p bytes place s) (Ok (c, 0)) (with_functions fs (with_main code places s))
           unfolding appended with_code code_here places_here
           emitted_main z ec el = record { means = sym (all_in q ∙ rw (← longer_is, ← end_is, eq-eqb _ _ z, ec, el)) }
 
           pub emitted_other : (c.current ≡ 0 → ⊥) → code ≡ written s.other (at + n) bytes → places ≡ written s.other_places (at + n) (replicate (length bytes) place)
-              → Is (emit_of running c p bytes place s) (Done c 0) (with_functions fs (with_other code places s))
+              → Is (emit_of running c p bytes place s) (Ok (c, 0)) (with_functions fs (with_other code places s))
           unfolding appended with_code code_here places_here
           emitted_other z ec el = record { means = sym (all_in q ∙ rw (← longer_is, ← end_is, ne_eqb _ _ z, ec, el)) }
 
@@ -168,11 +169,11 @@ module _ (c : Counts) (fs m o : List ℕ) (b : Bool) (e : (rest : Stores) → b 
   patch_in_other z = let x = code_in_other c fs m o patch_limited patch_codes z in let y = patch_end in omega arith
 
 module _ (running : Bool) (c : Counts) (k a : ℕ) (s : Stores) (b : Bool) (e : b ≡ patch_order c s) where
-  pub patch_19 : not b ≡ true → Is (patch_of running c k a s) (Refused 19) s
+  pub patch_19 : not b ≡ true → Is (patch_of running c k a s) (Err why.NotInOrder) s
   unfolding patch_of
   patch_19 h = record { means = rw (← e, not-true b h) }
 
-  pub patch_25 : not b ≡ false → running ≡ true → Is (patch_of running c k a s) (Refused 25) s
+  pub patch_25 : not b ≡ false → running ≡ true → Is (patch_of running c k a s) (Err why.RunUnderWay) s
   unfolding patch_of
   patch_25 h r = record { means = rw (← e, not-false b h, r) }
 
@@ -181,7 +182,7 @@ module _ (running : Bool) (c : Counts) (k a : ℕ) (s : Stores) (b : Bool) (e : 
     unfolding size_here code_word
     patch_size = rw (en, ew)
 
-    pub patch_23 : n < k + 2 → Is (patch_of running c k a s) (Refused 23) s
+    pub patch_23 : n < k + 2 → Is (patch_of running c k a s) (Err why.PatchOutsideCode) s
     unfolding patch_of
     patch_23 l = record { means = rw (← e, not-false b h, idle, ← patch_size, lt-ltb _ _ l) }
 
@@ -194,10 +195,10 @@ module _ (running : Bool) (c : Counts) (k a : ℕ) (s : Stores) (b : Bool) (e : 
       unfolding code_word
       patch_from = rw (ea, ew)
 
-      pub patched_main : c.current ≡ 0 → code ≡ written s.main (at + k) (u16 a) → Is (patch_of running c k a s) (Done c 0) (with_main code s.main_places s)
+      pub patched_main : c.current ≡ 0 → code ≡ written s.main (at + k) (u16 a) → Is (patch_of running c k a s) (Ok (c, 0)) (with_main code s.main_places s)
       unfolding patched with_code code_here places_here
       patched_main z ec = record { means = sym (patch_all ∙ rw (← patch_from, eq-eqb _ _ z, ec)) }
 
-      pub patched_other : (c.current ≡ 0 → ⊥) → code ≡ written s.other (at + k) (u16 a) → Is (patch_of running c k a s) (Done c 0) (with_other code s.other_places s)
+      pub patched_other : (c.current ≡ 0 → ⊥) → code ≡ written s.other (at + k) (u16 a) → Is (patch_of running c k a s) (Ok (c, 0)) (with_other code s.other_places s)
       unfolding patched with_code code_here places_here
       patched_other z ec = record { means = sym (patch_all ∙ rw (← patch_from, ne_eqb _ _ z, ec)) }

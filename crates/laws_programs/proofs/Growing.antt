@@ -1,5 +1,5 @@
 -- Text that is appended changes no name below it. A constant more, a patch, a new function and the end of one keep good order.
-use Rattle.std.specs.Prelude.{if◌then◌else◌}
+use Rattle.std.specs.Prelude.{if◌then◌else◌, Ok}
 use mathlib.Core.Path.{◌≡◌, refl, sym, ap, ◌∙◌}
 use mathlib.Core.Bool.{Bool, true, false, ◌||◌}
 use mathlib.Core.List.{List, ◌++◌, append_assoc}
@@ -14,7 +14,7 @@ use borrow.Author.Tests.{le-leb, leb-true, leb-false, eq-eqb, eqb-true, eqb-fals
 use Rattle.model.specs.declared.Constant.{Constant}
 use Rattle.model.specs.declared.Constant.TheVariants as k
 use Rattle.model.specs.declared.Counts.{Counts}
-use Rattle.model.specs.declared.Emitted.TheVariants.{Done}
+use Rattle.model.specs.declared.Refusal.TheVariants as why
 use Rattle.model.specs.Basics.{every_from}
 use Rattle.model.specs.Values.{places, text_at, kind_at, payload_at, put_words}
 use Rattle.model.specs.Programs.{constant_limit}
@@ -26,7 +26,7 @@ use Rattle.layout.proofs.Parts.{room_1, room_2, places_same, start_pack, size_pa
 use Rattle.laws_programs.proofs.Every.{pass_all}
 use Rattle.laws_programs.proofs.Known.{Limited, limited, Structs, structs_known, structs_good, text_inside, constants_known, function_known, codes_behind}
 use Rattle.layout.proofs.Writing.{length_written, length_words}
-use Rattle.laws_programs.proofs.Entered.{ended_in_main}
+use Rattle.laws_programs.proofs.Entered.{same_counts, ended_in_main}
 use Rattle.laws_programs.proofs.Adding.{start_below}
 use Rattle.laws_programs.proofs.Keeping.{Good, good_of, of_good, inside_back, function_good, Kept, kept_if, kept_refused}
 
@@ -196,7 +196,7 @@ module _ (c : Counts) (s : Stores) (g : Good c s) (few : c.constants < 65535) (f
   unfolding with_constant text_ok
   plain_kept kind w ok = record {
     kept = λ d i e.
-        let z : one_constant 0 c ≡ d = cc in
+        let z : one_constant 0 c ≡ d = same_counts e in
         let l : c.text ≤ places 1 s.text = leb-true c.text (places 1 s.text) g.text in
         rw (← z) (of_good _ _ (constant_good 0 kind w s.text (omega arith) (λ v q. refl) ok));
   }
@@ -207,7 +207,7 @@ module _ (c : Counts) (s : Stores) (g : Good c s) (few : c.constants < 65535) (f
       kept_if (leb (c.text + length lent) (places 1 s.text)) _ _
       (λ t. record {
         kept = λ d i e.
-            let z : one_constant (length lent) c ≡ d = cc in
+            let z : one_constant (length lent) c ≡ d = same_counts e in
             let l : c.text + length lent ≤ places 1 s.text = leb-true _ _ t in
             let x = room_1 s.text in
             let b : c.text < 2 ^ 32 = omega arith in
@@ -217,7 +217,7 @@ module _ (c : Counts) (s : Stores) (g : Good c s) (few : c.constants < 65535) (f
             let u : c.text + length lent ≤ places 1 (written s.text c.text lent) = rw (places_same 1 (written s.text c.text lent) s.text (length_written s.text c.text lent)) l in
             rw (← z) (of_good _ _ (constant_good (length lent) kind (pack c.text (length lent)) (written s.text c.text lent) u (part_kept s.text c.text lent f) (sym (is _) ∙ o)));
       })
-      (λ _. kept_refused 21 s)
+      (λ _. kept_refused why.StoreFull s)
 
   added_kept : (x : Constant) (lent : List ℕ) → Kept (constant_added c x lent s)
   unfolding constant_added constant_ok
@@ -232,10 +232,10 @@ pub constant_keeps : (running : Bool) (c : Counts) (x : Constant) (lent : List �
 unfolding add_constant_of
 constant_keeps running c x lent s e =
     kept_if (constant_order c s) _ _ (λ _.
-    kept_if running _ _ (λ _. kept_refused 25 s) (λ _.
-    kept_if (leb constant_limit c.constants) _ _ (λ _. kept_refused 22 s) (λ few.
-    kept_if (leb (places 2 s.constants) c.constants) _ _ (λ _. kept_refused 21 s) (λ fits. added_kept c s (good_of c s e) (leb-false _ _ few) (leb-false _ _ fits) x lent))))
-    (λ _. kept_refused 19 s)
+    kept_if running _ _ (λ _. kept_refused why.RunUnderWay s) (λ _.
+    kept_if (leb constant_limit c.constants) _ _ (λ _. kept_refused why.OverLimit s) (λ few.
+    kept_if (leb (places 2 s.constants) c.constants) _ _ (λ _. kept_refused why.StoreFull s) (λ fits. added_kept c s (good_of c s e) (leb-false _ _ few) (leb-false _ _ fits) x lent))))
+    (λ _. kept_refused why.NotInOrder s)
 
 -- ---- a patch, and the end of a function
 
@@ -249,10 +249,10 @@ patch_keeps running c at a s e =
     let g = good_of c s e in
     let w = start (code_word s.functions c.current) + at in
     kept_if (patch_order c s) _ _ (λ _.
-    kept_if running _ _ (λ _. kept_refused 25 s) (λ _.
-    kept_if (ltb (size_here c s) (at + 2)) _ _ (λ _. kept_refused 23 s) (λ _. record {
+    kept_if running _ _ (λ _. kept_refused why.RunUnderWay s) (λ _.
+    kept_if (ltb (size_here c s) (at + 2)) _ _ (λ _. kept_refused why.PatchOutsideCode s) (λ _. record {
       kept = λ d i q.
-          let z : c ≡ d = cc in
+          let z : c ≡ d = same_counts q in
           rw (← z) (either_way (eqb c.current 0)
           (λ t. rw t (of_good _ _ (record {
             counts = g.counts;
@@ -275,9 +275,9 @@ patch_keeps running c at a s e =
             codes = codes_same c s.functions s.main s.other s.main (written s.other w (u16 a)) refl (length_written s.other w (u16 a)) g.codes;
           }))));
     })))
-    (λ _. kept_refused 19 s)
+    (λ _. kept_refused why.NotInOrder s)
 
-pub end_keeps : (running : Bool) (c : Counts) (s : Stores) → program_ok c s ≡ true → (d : Counts) (n : ℕ) → end_function_of running c ≡ Done d n → program_ok d s ≡ true
+pub end_keeps : (running : Bool) (c : Counts) (s : Stores) → program_ok c s ≡ true → (d : Counts) (n : ℕ) → end_function_of running c ≡ Ok (d, n) → program_ok d s ≡ true
 unfolding text_ok constants_ok constant_ok inside_text structs_ok functions_ok function_ok inside_codes other_taken
 end_keeps running c s e d n q =
     let g = good_of c s e in let l = limited c g.counts in

@@ -1,5 +1,5 @@
 -- Emission of code keeps good order.
-use Rattle.std.specs.Prelude.{if◌then◌else◌}
+use Rattle.std.specs.Prelude.{if◌then◌else◌, Ok}
 use mathlib.Core.Path.{◌≡◌, refl, sym, ap, ◌∙◌}
 use mathlib.Core.Bool.{Bool, true, false, ◌&&◌}
 use mathlib.Core.List.{List}
@@ -11,7 +11,8 @@ use lib.ListN.{length, set, length-set}
 use lib.Seq.{get_or-set_same, get_or-set_other}
 use borrow.Author.Tests.{le-leb, eq-eqb, ne_eqb, eqb-true, eqb-false, ltb-false}
 use Rattle.model.specs.declared.Counts.{Counts}
-use Rattle.model.specs.declared.Emitted.TheVariants.{Done}
+use Rattle.model.specs.declared.Refusal.{Refusal}
+use Rattle.model.specs.declared.Refusal.TheVariants as why
 use Rattle.model.specs.Basics.{every_from}
 use Rattle.model.specs.Values.{places, kind_at, payload_at}
 use Rattle.model.specs.Programs.{code_limit}
@@ -22,6 +23,7 @@ use Rattle.layout.proofs.Bools.{either_way, and_left, and_right, and_both}
 use Rattle.layout.proofs.Parts.{room_1, places_same, start_pack, size_pack}
 use Rattle.laws_programs.proofs.Every.{pass_all}
 use Rattle.laws_programs.proofs.Known.{Limited, limited, Known, function_known, codes_behind}
+use Rattle.laws_programs.proofs.Entered.{same_counts}
 use Rattle.layout.proofs.Writing.{length_written}
 
 -- ---- good order, clause by clause
@@ -79,14 +81,14 @@ function_good c fs i a b d e = rw (a, eq-eqb _ _ b, le-leb _ _ d, le-leb _ _ e)
 
 -- what an entry leaves when it is done is in good order
 pub record Kept (r : Res) : Type 0 where
-  pub kept : (c : Counts) (n : ℕ) → r.answer ≡ Done c n → program_ok c r.stores ≡ true
+  pub kept : (c : Counts) (n : ℕ) → r.answer ≡ Ok (c, n) → program_ok c r.stores ≡ true
 
 pub kept_if : (b : Bool) (x y : Res) → (b ≡ true → Kept x) → (b ≡ false → Kept y) → Kept (if b then x else y)
 kept_if true x y h k = h refl
 kept_if false x y h k = k refl
 
-pub kept_refused : (n : ℕ) (s : Stores) → Kept (refuse n s)
-kept_refused n s = record { kept = λ c i e. absurd (let z : ◌≡◌ {A = ℕ} 0 1 = cc in let y : ⊥ = omega arith in y) }
+pub kept_refused : (e : Refusal) (s : Stores) → Kept (refuse e s)
+kept_refused e s = record { kept = λ c i q. absurd (let z : ◌≡◌ {A = ℕ} 0 1 = cc in let y : ⊥ = omega arith in y) }
 
 -- ---- the current function's code made longer
 
@@ -265,15 +267,15 @@ module _ (c : Counts) (bytes : List ℕ) (place : ℕ) (s : Stores) (g : Good c 
 
   append_kept : Kept (appended c bytes place s)
   unfolding appended
-  append_kept = record { kept = λ c' i e. let z : c ≡ c' = cc in rw (← z) append_good }
+  append_kept = record { kept = λ c' i e. rw (← (same_counts e)) append_good }
 
 -- add_op to add_op3 keep good order
 pub emit_keeps : (running : Bool) (c : Counts) (op : ℕ) (bytes : List ℕ) (place : ℕ) (s : Stores) → program_ok c s ≡ true → Kept (emit_of running c op bytes place s)
 unfolding emit_of emit_in
 emit_keeps running c op bytes place s e =
     kept_if (code_order c s) _ _ (λ _.
-    kept_if running _ _ (λ _. kept_refused 25 s) (λ _.
-    kept_if (ltb code_limit (size_here c s + length bytes)) _ _ (λ _. kept_refused 22 s) (λ short.
-    kept_if (ltb (code_room c s) (end_here c s + length bytes)) _ _ (λ _. kept_refused 21 s) (λ fits.
-    kept_if (leb 38 op) _ _ (λ _. kept_refused 1 s) (λ _. append_kept c bytes place s (good_of c s e) (ltb-false _ _ short) (ltb-false _ _ fits))))))
-    (λ _. kept_refused 19 s)
+    kept_if running _ _ (λ _. kept_refused why.RunUnderWay s) (λ _.
+    kept_if (ltb code_limit (size_here c s + length bytes)) _ _ (λ _. kept_refused why.OverLimit s) (λ short.
+    kept_if (ltb (code_room c s) (end_here c s + length bytes)) _ _ (λ _. kept_refused why.StoreFull s) (λ fits.
+    kept_if (leb 38 op) _ _ (λ _. kept_refused why.UnknownOpcode s) (λ _. append_kept c bytes place s (good_of c s e) (ltb-false _ _ short) (ltb-false _ _ fits))))))
+    (λ _. kept_refused why.NotInOrder s)

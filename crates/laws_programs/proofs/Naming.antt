@@ -1,5 +1,5 @@
 -- A new program, a struct name more, a new function, and the end of one: good order is kept, and what the program then is.
-use Rattle.std.specs.Prelude.{if◌then◌else◌}
+use Rattle.std.specs.Prelude.{if◌then◌else◌, Ok}
 use mathlib.Core.Path.{◌≡◌, refl, ap, ◌∙◌}
 use mathlib.Core.Bool.{Bool, true, false, ◌&&◌}
 use mathlib.Core.List.{List, [], ◌∷◌, ◌++◌}
@@ -11,7 +11,8 @@ use lib.Dec.{eqb, leb}
 use lib.ListN.{length}
 use borrow.Author.Tests.{le-leb, leb-true, leb-false, eqb-true, eqb-false}
 use Rattle.model.specs.declared.Counts.{Counts}
-use Rattle.model.specs.declared.Emitted.TheVariants.{Done}
+use Rattle.model.specs.declared.Refusal.{Refusal}
+use Rattle.model.specs.declared.Refusal.TheVariants as why
 use Rattle.model.specs.Basics.{ascii, every_from}
 use Rattle.model.specs.Values.{places, text_at, kind_at, payload_at, put_words}
 use Rattle.model.specs.Equality.{same_bytes}
@@ -28,7 +29,7 @@ use Rattle.layout.proofs.Parts.{room_1, room_2, places_same, start_pack, size_pa
 use Rattle.laws_programs.proofs.Known.{Limited, limited, Structs, structs_known, structs_good, text_inside, constants_known, function_known}
 use Rattle.layout.proofs.Writing.{length_written}
 use Rattle.laws_programs.proofs.Searching.{among_none, among_some}
-use Rattle.laws_programs.proofs.Entered.{ended_in_main}
+use Rattle.laws_programs.proofs.Entered.{same_counts, ended_in_main}
 use Rattle.laws_programs.proofs.Adding.{start_below}
 use Rattle.laws_programs.proofs.Keeping.{Good, good_of, of_good, inside_back, function_good, Kept}
 use Rattle.laws_programs.proofs.Growing.{part_kept, part_new, inside_more, constants_more, functions_more, names_same, main_kept, words_here, words_other, counts_good, function_begun}
@@ -37,17 +38,17 @@ use Rattle.laws_programs.proofs.Reading.{all_same, constants_alike, constant_ali
 -- ---- what an entry leaves when it is done: a program in good order, and this one
 
 pub record Made (want : Program) (r : Res) : Type 0 where
-  pub made : (d : Counts) (i : ℕ) → r.answer ≡ Done d i → (program_ok d r.stores ≡ true) × (program_in d r.stores ≡ want)
+  pub made : (d : Counts) (i : ℕ) → r.answer ≡ Ok (d, i) → (program_ok d r.stores ≡ true) × (program_in d r.stores ≡ want)
 
 made_if : (want : Program) (b : Bool) (x y : Res) → (b ≡ true → Made want x) → (b ≡ false → Made want y) → Made want (if b then x else y)
 made_if want true x y h k = h refl
 made_if want false x y h k = k refl
 
-made_refused : (want : Program) (n : ℕ) (s : Stores) → Made want (refuse n s)
-made_refused want n s = record { made = λ d i e. absurd (let z : ◌≡◌ {A = ℕ} 0 1 = cc in let y : ⊥ = omega arith in y) }
+made_refused : (want : Program) (e : Refusal) (s : Stores) → Made want (refuse e s)
+made_refused want e s = record { made = λ d i q. absurd (let z : ◌≡◌ {A = ℕ} 0 1 = cc in let y : ⊥ = omega arith in y) }
 
-made_done : {want : Program} (d : Counts) (n : ℕ) (s : Stores) → Good d s → program_in d s ≡ want → Made want (record { answer = Done d n; stores = s })
-made_done d n s g e = record { made = λ d' i q. let z : d ≡ d' = cc in rw (← z) (of_good d s g, e) }
+made_done : {want : Program} (d : Counts) (n : ℕ) (s : Stores) → Good d s → program_in d s ≡ want → Made want (record { answer = Ok (d, n); stores = s })
+made_done d n s g e = record { made = λ d' i q. rw (← (same_counts q)) (of_good d s g, e) }
 
 kept_of : {want : Program} {r : Res} → Made want r → Kept r
 kept_of m = record { kept = λ d i e. (m.made d i e).0 }
@@ -208,12 +209,12 @@ module _ (c : Counts) (lent : List ℕ) (s : Stores) (e : program_ok c s ≡ tru
   unfolding struct_added text_room
   added_made fresh =
       let want = with_name (program_in c s) lent in
-      made_if want (leb name_limit c.structs) _ _ (λ _. made_refused want 22 s) (λ few.
-      made_if want (leb (places 2 s.structs) c.structs) _ _ (λ _. made_refused want 21 s) (λ fits.
+      made_if want (leb name_limit c.structs) _ _ (λ _. made_refused want why.OverLimit s) (λ few.
+      made_if want (leb (places 2 s.structs) c.structs) _ _ (λ _. made_refused want why.StoreFull s) (λ fits.
       made_if want (leb (c.text + length lent) (places 1 s.text)) _ _ (λ r.
       made_done _ c.structs _ (named_good c s good lent (leb-true _ _ r) (leb-false _ _ few) (leb-false _ _ fits) fresh)
       (named_reads c s good lent (leb-true _ _ r) (leb-false _ _ few) (leb-false _ _ fits) fresh))
-      (λ _. made_refused want 21 s)))
+      (λ _. made_refused want why.StoreFull s)))
 
   found_made : (o : Option ℕ) → first_from 0 lent (structs_from c.structs 0 s.structs s.text) ≡ o → Made (with_name (program_in c s) lent) (struct_found c lent s o)
   unfolding struct_found with_name program_in
@@ -225,8 +226,8 @@ module _ (c : Counts) (lent : List ℕ) (s : Stores) (e : program_ok c s ≡ tru
   struct_made running =
       let want = with_name (program_in c s) lent in
       made_if want (struct_order c s) _ _ (λ _.
-      made_if want running _ _ (λ _. made_refused want 25 s) (λ _. found_made _ refl))
-      (λ _. made_refused want 19 s)
+      made_if want running _ _ (λ _. made_refused want why.RunUnderWay s) (λ _. found_made _ refl))
+      (λ _. made_refused want why.NotInOrder s)
 
 -- add_struct_info
 pub struct_keeps : (running : Bool) (c : Counts) (lent : List ℕ) (s : Stores) → program_ok c s ≡ true → Kept (add_struct_of running c lent s)
@@ -292,7 +293,7 @@ new_made s =
     let a = leb 6 (places 1 s.text) in let b = leb 1 (places 2 s.functions) in
     made_if only_main (a && b) _ _
     (λ t. made_done _ 0 _ (new_good s (leb-true _ _ (and_left a b t)) (leb-true _ _ (and_right a b t))) (new_program s (leb-true _ _ (and_left a b t)) (leb-true _ _ (and_right a b t))))
-    (λ _. made_refused only_main 21 s)
+    (λ _. made_refused only_main why.StoreFull s)
 
 pub new_keeps : (s : Stores) → Kept (new_of s)
 new_keeps s = kept_of (new_made s)
@@ -361,15 +362,15 @@ unfolding begin_function_of begun text_room
 begin_made running c name s e =
     let want = with_function (program_in c s) name in let g = good_of c s e in
     made_if want (function_order c s) _ _ (λ _.
-    made_if want running _ _ (λ _. made_refused want 25 s) (λ _.
-    made_if want (leb name_limit c.functions) _ _ (λ _. made_refused want 22 s) (λ few.
-    made_if want (leb (places 2 s.functions) c.functions) _ _ (λ _. made_refused want 21 s) (λ fits.
+    made_if want running _ _ (λ _. made_refused want why.RunUnderWay s) (λ _.
+    made_if want (leb name_limit c.functions) _ _ (λ _. made_refused want why.OverLimit s) (λ few.
+    made_if want (leb (places 2 s.functions) c.functions) _ _ (λ _. made_refused want why.StoreFull s) (λ fits.
     made_if want (leb (c.text + length name) (places 1 s.text)) _ _ (λ t.
     let room = leb-true _ _ t in
     made_done _ c.functions _ (function_begun c s g (leb-false _ _ few) (leb-false _ _ fits) (length name) _ (text_room_lem c s g name room)
     (same c s g name room)) (begun_reads c s g name room (leb-false _ _ fits)))
-    (λ _. made_refused want 21 s)))))
-    (λ _. made_refused want 19 s)
+    (λ _. made_refused want why.StoreFull s)))))
+    (λ _. made_refused want why.NotInOrder s)
 
 -- begin_function
 pub begin_keeps : (running : Bool) (c : Counts) (name : List ℕ) (s : Stores) → program_ok c s ≡ true → Kept (begin_function_of running c name s)
@@ -379,6 +380,6 @@ pub begin_reads : (running : Bool) (c : Counts) (name : List ℕ) (s : Stores) �
 begin_reads running c name s e = reads_of (begin_made running c name s e)
 
 -- end_function changes no program
-pub end_reads : (running : Bool) (c : Counts) (s : Stores) → program_ok c s ≡ true → (d : Counts) (n : ℕ) → end_function_of running c ≡ Done d n → program_in d s ≡ program_in c s
+pub end_reads : (running : Bool) (c : Counts) (s : Stores) → program_ok c s ≡ true → (d : Counts) (n : ℕ) → end_function_of running c ≡ Ok (d, n) → program_in d s ≡ program_in c s
 unfolding program_in
 end_reads running c s e d n q = rw (← (ended_in_main running c d n q))

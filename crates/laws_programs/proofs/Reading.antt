@@ -1,5 +1,5 @@
 -- What the program then is: the old one with the bytes appended to the current function's code or patched inside it, or with the constant appended.
-use Rattle.std.specs.Prelude.{if◌then◌else◌}
+use Rattle.std.specs.Prelude.{if◌then◌else◌, Ok}
 use mathlib.Core.Path.{◌≡◌, refl, sym, ap, ◌∙◌}
 use mathlib.Core.Bool.{Bool, true, false, not}
 use mathlib.Core.List.{List, [], ◌∷◌, ◌++◌, append_assoc}
@@ -13,16 +13,18 @@ use borrow.Author.Tests.{eq-eqb, ne_eqb, eqb-true, eqb-false, ltb-false, leb-tru
 use Rattle.model.specs.declared.Constant.{Constant}
 use Rattle.model.specs.declared.Constant.TheVariants as k
 use Rattle.model.specs.declared.Counts.{Counts}
+use Rattle.model.specs.declared.Refusal.{Refusal}
+use Rattle.model.specs.declared.Refusal.TheVariants as why
 use Rattle.model.specs.Values.{places, text_at, kind_at, payload_at, put_words}
 use Rattle.model.specs.Programs.{scalar, boolean, string, reference, Function, function_at, Program, code_limit, constant_limit}
 use Rattle.model.specs.Programs as p
 use Rattle.model.specs.Stores.{Stores, start, size, pack, part, name_word, code_word, code_end, code_here, places_here, with_code, with_functions, with_main, with_other, with_constants, with_text, constant_in, constants_from, structs_from, function_in, functions_from, program_in}
 use Rattle.model.specs.Orders.{inside_text, constant_ok, code_start, program_ok}
-use Rattle.model.specs.declared.Emitted.TheVariants.{Done}
 use Rattle.model.specs.Emission.{Res, refuse, one_constant, text_room, with_constant, with_text_constant, constant_added, constant_order, add_constant_of, code_order, emit_in, emit_of, written, size_here, end_here, code_room, longer, appended, u16, patch_order, patched, patch_of}
 use Rattle.layout.proofs.Bools.{apart, either_way}
 use Rattle.layout.proofs.Parts.{room_1, room_2, start_pack, size_pack}
 use Rattle.laws_programs.proofs.Known.{Limited, limited, function_known, ascending, constants_known, structs_known, text_inside, code_in_other}
+use Rattle.laws_programs.proofs.Entered.{same_counts}
 use Rattle.laws_programs.proofs.Keeping.{Good, good_of, Longer, in_code, in_places, now_longer}
 use Rattle.laws_programs.proofs.Growing.{split, part_kept, part_new, words_here, words_other, names_same}
 
@@ -301,19 +303,19 @@ meant k.FunctionReference lent = reference lent
 
 -- what an entry leaves when it is done stands for that program
 pub record Reads (want : Program) (r : Res) : Type 0 where
-  pub reads : (d : Counts) (i : ℕ) → r.answer ≡ Done d i → program_in d r.stores ≡ want
+  pub reads : (d : Counts) (i : ℕ) → r.answer ≡ Ok (d, i) → program_in d r.stores ≡ want
 
 reads_if : (want : Program) (b : Bool) (x y : Res) → (b ≡ true → Reads want x) → (b ≡ false → Reads want y) → Reads want (if b then x else y)
 reads_if want true x y h q = h refl
 reads_if want false x y h q = q refl
 
-reads_refused : (want : Program) (n : ℕ) (s : Stores) → Reads want (refuse n s)
-reads_refused want n s = record { reads = λ d i e. absurd (let z : ◌≡◌ {A = ℕ} 0 1 = cc in let y : ⊥ = omega arith in y) }
+reads_refused : (want : Program) (e : Refusal) (s : Stores) → Reads want (refuse e s)
+reads_refused want e s = record { reads = λ d i q. absurd (let z : ◌≡◌ {A = ℕ} 0 1 = cc in let y : ⊥ = omega arith in y) }
 
 module _ (c : Counts) (s : Stores) (g : Good c s) (fits : c.constants < places 2 s.constants) where
   plain_reads : (kind w : ℕ) → Reads (with_one (program_in c s) (constant_in s.text kind w)) (with_constant c kind w s)
   unfolding with_constant
-  plain_reads kind w = record { reads = λ d i e. let z : one_constant 0 c ≡ d = cc in rw (← z) (constant_reads c s g fits 0 kind w s.text (λ v q. refl)) }
+  plain_reads kind w = record { reads = λ d i e. rw (← (same_counts e)) (constant_reads c s g fits 0 kind w s.text (λ v q. refl)) }
 
   text_reads : (kind : ℕ) (lent : List ℕ) (x : p.Constant) → ((t : List ℕ) → part t (pack c.text (length lent)) ≡ lent
       → constant_in t kind (pack c.text (length lent)) ≡ x) → Reads (with_one (program_in c s) x) (with_text_constant c kind lent s)
@@ -322,7 +324,7 @@ module _ (c : Counts) (s : Stores) (g : Good c s) (fits : c.constants < places 2
       reads_if (with_one (program_in c s) x) (leb (c.text + length lent) (places 1 s.text)) _ _
       (λ t. record {
         reads = λ d i e.
-            let z : one_constant (length lent) c ≡ d = cc in
+            let z : one_constant (length lent) c ≡ d = same_counts e in
             let l : c.text + length lent ≤ places 1 s.text = leb-true _ _ t in
             let y = room_1 s.text in
             let b : c.text < 2 ^ 32 = omega arith in
@@ -331,7 +333,7 @@ module _ (c : Counts) (s : Stores) (g : Good c s) (fits : c.constants < places 2
             rw (← z) (constant_reads c s g fits (length lent) kind (pack c.text (length lent)) (written s.text c.text lent)
             (part_kept s.text c.text lent f) ∙ ap (λ (q : p.Constant). with_one (program_in c s) q) o);
       })
-      (λ _. reads_refused (with_one (program_in c s) x) 21 s)
+      (λ _. reads_refused (with_one (program_in c s) x) why.StoreFull s)
 
   -- the program then has the constant behind the others
   pub added_reads : (x : Constant) (lent : List ℕ) → Reads (with_one (program_in c s) (meant x lent)) (constant_added c x lent s)
@@ -346,7 +348,7 @@ module _ (c : Counts) (s : Stores) (g : Good c s) (fits : c.constants < places 2
 
 appended_done : (c : Counts) (bytes : List ℕ) (place : ℕ) (s : Stores) {want : Program} → program_in c (appended c bytes place s).stores ≡ want → Reads want (appended c bytes place s)
 unfolding appended
-appended_done c bytes place s {want} e = record { reads = λ d i q. let z : c ≡ d = cc in rw (← z) e }
+appended_done c bytes place s {want} e = record { reads = λ d i q. rw (← (same_counts q)) e }
 
 pub emit_reads : (running : Bool) (c : Counts) (op : ℕ) (bytes : List ℕ) (place : ℕ) (s : Stores) → program_ok c s ≡ true
     → Reads (changed (program_in c s) c.current (longer_by bytes (replicate (length bytes) place))) (emit_of running c op bytes place s)
@@ -354,31 +356,31 @@ unfolding emit_of emit_in
 emit_reads running c op bytes place s e =
     let want = changed (program_in c s) c.current (longer_by bytes (replicate (length bytes) place)) in
     reads_if want (code_order c s) _ _ (λ _.
-    reads_if want running _ _ (λ _. reads_refused want 25 s) (λ _.
-    reads_if want (ltb code_limit (size_here c s + length bytes)) _ _ (λ _. reads_refused want 22 s) (λ short.
-    reads_if want (ltb (code_room c s) (end_here c s + length bytes)) _ _ (λ _. reads_refused want 21 s) (λ fits.
-    reads_if want (leb 38 op) _ _ (λ _. reads_refused want 1 s) (λ _. appended_done c bytes place s (appended_reads c bytes place s (good_of c s e) (ltb-false _ _ short) (ltb-false _ _ fits)))))))
-    (λ _. reads_refused want 19 s)
+    reads_if want running _ _ (λ _. reads_refused want why.RunUnderWay s) (λ _.
+    reads_if want (ltb code_limit (size_here c s + length bytes)) _ _ (λ _. reads_refused want why.OverLimit s) (λ short.
+    reads_if want (ltb (code_room c s) (end_here c s + length bytes)) _ _ (λ _. reads_refused want why.StoreFull s) (λ fits.
+    reads_if want (leb 38 op) _ _ (λ _. reads_refused want why.UnknownOpcode s) (λ _. appended_done c bytes place s (appended_reads c bytes place s (good_of c s e) (ltb-false _ _ short) (ltb-false _ _ fits)))))))
+    (λ _. reads_refused want why.NotInOrder s)
 
 patched_done : (c : Counts) (at a : ℕ) (s : Stores) {want : Program} → program_in c (patched c at a s).stores ≡ want → Reads want (patched c at a s)
 unfolding patched
-patched_done c at a s e = record { reads = λ d i q. let z : c ≡ d = cc in rw (← z) e }
+patched_done c at a s e = record { reads = λ d i q. rw (← (same_counts q)) e }
 
 pub patch_reads : (running : Bool) (c : Counts) (at a : ℕ) (s : Stores) → program_ok c s ≡ true → Reads (changed (program_in c s) c.current (patched_by at (u16 a))) (patch_of running c at a s)
 unfolding patch_of
 patch_reads running c at a s e =
     let want = changed (program_in c s) c.current (patched_by at (u16 a)) in
     reads_if want (patch_order c s) _ _ (λ _.
-    reads_if want running _ _ (λ _. reads_refused want 25 s) (λ _.
-    reads_if want (ltb (size_here c s) (at + 2)) _ _ (λ _. reads_refused want 23 s) (λ f. patched_done c at a s (patched_reads c at a s (good_of c s e) (ltb-false _ _ f)))))
-    (λ _. reads_refused want 19 s)
+    reads_if want running _ _ (λ _. reads_refused want why.RunUnderWay s) (λ _.
+    reads_if want (ltb (size_here c s) (at + 2)) _ _ (λ _. reads_refused want why.PatchOutsideCode s) (λ f. patched_done c at a s (patched_reads c at a s (good_of c s e) (ltb-false _ _ f)))))
+    (λ _. reads_refused want why.NotInOrder s)
 
 pub add_constant_reads : (running : Bool) (c : Counts) (x : Constant) (lent : List ℕ) (s : Stores) → program_ok c s ≡ true → Reads (with_one (program_in c s) (meant x lent)) (add_constant_of running c x lent s)
 unfolding add_constant_of
 add_constant_reads running c x lent s e =
     let want = with_one (program_in c s) (meant x lent) in
     reads_if want (constant_order c s) _ _ (λ _.
-    reads_if want running _ _ (λ _. reads_refused want 25 s) (λ _.
-    reads_if want (leb constant_limit c.constants) _ _ (λ _. reads_refused want 22 s) (λ _.
-    reads_if want (leb (places 2 s.constants) c.constants) _ _ (λ _. reads_refused want 21 s) (λ fits. added_reads c s (good_of c s e) (leb-false _ _ fits) x lent))))
-    (λ _. reads_refused want 19 s)
+    reads_if want running _ _ (λ _. reads_refused want why.RunUnderWay s) (λ _.
+    reads_if want (leb constant_limit c.constants) _ _ (λ _. reads_refused want why.OverLimit s) (λ _.
+    reads_if want (leb (places 2 s.constants) c.constants) _ _ (λ _. reads_refused want why.StoreFull s) (λ fits. added_reads c s (good_of c s e) (leb-false _ _ fits) x lent))))
+    (λ _. reads_refused want why.NotInOrder s)

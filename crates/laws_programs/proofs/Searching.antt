@@ -1,5 +1,5 @@
 -- Searches by name.
-use Rattle.std.specs.Prelude.{if◌then◌else◌}
+use Rattle.std.specs.Prelude.{if◌then◌else◌, Err, Ok}
 use mathlib.Core.Path.{◌≡◌, refl, sym, ap, ◌∙◌}
 use mathlib.Core.Bool.{Bool, true, false, ◌&&◌}
 use mathlib.Core.List.{List, [], ◌∷◌, ◌++◌}
@@ -9,7 +9,7 @@ use native.Mathlib.Omega.{arith}
 use lib.Dec.{eqb}
 use lib.ListN.{length}
 use borrow.Author.Tests.{eq-eqb, ne_eqb, eqb-true, eqb-false}
-use Rattle.model.specs.declared.Told.TheVariants as tl
+use Rattle.model.specs.declared.Refusal.TheVariants as why
 use Rattle.model.specs.Values.{kind_at}
 use Rattle.model.specs.Equality.{same_bytes}
 use Rattle.model.specs.Programs.{or_else, newest_from, first_from, among}
@@ -51,11 +51,8 @@ pub record Newest (n : ℕ) (name fs t : List ℕ) (left : ℕ) : Type 0 where
   pub within : left ≤ n
   pub means : (rest : Stores) → newest_from 0 name (names_from n 0 (names_lent rest fs t)) ≡ newest_from 0 name (names_from left 0 (names_lent rest fs t))
 
-pub newest_start : (n : ℕ) (name fs t : List ℕ) → Newest n name fs t n
-newest_start n name fs t = record { within = omega arith; means = λ rest. refl }
-
 module _ (n : ℕ) (name fs t : List ℕ) (left : ℕ) (h : Newest n name fs t left) where
-  pub newest_none : left ≤ 0 → (rest : Stores) → tl.Refused 14 ≡ told_name (newest_from 0 name (names_from n 0 (names_lent rest fs t)))
+  pub newest_none : left ≤ 0 → (rest : Stores) → Err why.NoFunction ≡ told_name (newest_from 0 name (names_from n 0 (names_lent rest fs t)))
   unfolding newest_from names_from told_name
   newest_none l rest = let z : left ≡ 0 = omega arith in rw (h.means rest, z)
 
@@ -68,7 +65,7 @@ module _ (n : ℕ) (name fs t : List ℕ) (left : ℕ) (h : Newest n name fs t l
         (λ (k : ℕ). newest_from 0 name (names_from k 0 (names_lent rest fs t))) z in
         h.means rest ∙ q ∙ newest_step name (left - 1) (names_lent rest fs t) ∙ rw (eb, ep, ew)
 
-    pub newest_here : b ≡ true → (rest : Stores) → tl.Number (left - 1) ≡ told_name (newest_from 0 name (names_from n 0 (names_lent rest fs t)))
+    pub newest_here : b ≡ true → (rest : Stores) → Ok (left - 1) ≡ told_name (newest_from 0 name (names_from n 0 (names_lent rest fs t)))
     unfolding told_name
     newest_here e rest = rw (here rest, e)
 

@@ -1,6 +1,6 @@
 -- One law for each combinator of the rules: what holds of every arm holds of the whole.
 -- R relates two outcomes of the same combinator over the same values; a law of one outcome alone takes λ x y. Q x for it.
-use Rattle.std.specs.Prelude.{if◌then◌else◌}
+use Rattle.std.specs.Prelude.{if◌then◌else◌, Err, Ok, Result}
 use mathlib.Core.Path.{◌≡◌, refl}
 use mathlib.Core.Bool.{Bool, true, false}
 use mathlib.Core.List.{List, [], ◌∷◌}
@@ -14,8 +14,6 @@ use Rattle.model.specs.declared.Value.{Value}
 use Rattle.model.specs.declared.Value.TheVariants as v
 use Rattle.model.specs.declared.Fault.{Fault}
 use Rattle.model.specs.declared.Fault.TheVariants as f
-use Rattle.model.specs.declared.Found.{Found}
-use Rattle.model.specs.declared.Found.TheVariants as g
 use Rattle.model.specs.Values.{if_scalar, if_boolean, if_reference, if_struct, popping, popping_scalar, popping_boolean}
 use Rattle.model.specs.Heap.{Cell, Built, built, unbuilt}
 use Rattle.model.specs.Equality.{Same, same}
@@ -87,11 +85,11 @@ module _ {A B : Type 0} (R : A → B → Type 0) where
 
 -- the same from s, and from s with u units
 module _ (R : Outcome → Outcome → Type 0) where
-  pub on_found_each : (x : Found) {s t : State} {k k' : Value → Outcome}
-      → ((n : Fault) → R (faulted n s) (faulted n t)) → ((y : Value) → x ≡ g.Got y → R (k y) (k' y)) → R (on_found x s k) (on_found x t k')
+  pub on_found_each : (x : Result Value Fault) {s t : State} {k k' : Value → Outcome}
+      → ((n : Fault) → R (faulted n s) (faulted n t)) → ((y : Value) → x ≡ Ok y → R (k y) (k' y)) → R (on_found x s k) (on_found x t k')
   unfolding on_found
-  on_found_each (g.Got y) p q = q y refl
-  on_found_each (g.Bad n) p q = p n
+  on_found_each (Ok y) p q = q y refl
+  on_found_each (Err n) p q = p n
 
   module _ (w : World) (s : State) (u : ℕ) where
     pub pushing_each : (x : Value) → R (faulted f.StackFull s) (faulted f.StackFull (with_units u s))

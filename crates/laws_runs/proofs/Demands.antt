@@ -1,12 +1,11 @@
 -- A run that answers a fault has recovered.
+use Rattle.std.specs.Prelude.{None, Option, Some}
 use mathlib.Core.Path.{◌≡◌, refl, sym, ap, subst, ◌∙◌}
 use mathlib.Core.Bool.{false}
 use mathlib.Core.List.{List, ◌∷◌}
 use Prim.Native.Nat.{ℕ}
 use native.Mathlib.Omega.{arith}
 use Rattle.model.specs.declared.Value.{Value}
-use Rattle.model.specs.declared.Last.{Last}
-use Rattle.model.specs.declared.Last.TheVariants.{Nothing, Is}
 use Rattle.model.specs.declared.Tally.{Tally}
 use Rattle.model.specs.Steps.{World, State, went, returned, step_of}
 use Rattle.model.specs.Runs.{Machine, begin, Progress, at_start, counted, Ended, ended, stopped, paused, over, end_of, Entry, trace_of, fault, tally, answered, recovered, part_of, abandon_of, given_up, run_of}
@@ -36,10 +35,10 @@ module _ (w : World) where
 
   -- ---- a run that answers a fault
 
-  no_fault : (a : Last) (x : Tally) (n : ℕ) (did : Tally) (trace : List Entry) → answered a x ≡ fault n did trace → ⊥
+  no_fault : (a : Option Value) (x : Tally) (n : ℕ) (did : Tally) (trace : List Entry) → answered a x ≡ fault n did trace → ⊥
   unfolding answered
-  no_fault Nothing x n did trace e = let z : ◌≡◌ {A = ℕ} 0 1 = cc in omega arith
-  no_fault (Is y) x n did trace e = let z : ◌≡◌ {A = ℕ} 0 1 = cc in omega arith
+  no_fault None x n did trace e = let z : ◌≡◌ {A = ℕ} 0 1 = cc in omega arith
+  no_fault (Some y) x n did trace e = let z : ◌≡◌ {A = ℕ} 0 1 = cc in omega arith
 
   module _ (m : Machine) (u n : ℕ) (did : Tally) (trace : List Entry) where
     -- cut at s, where the run had come as far as k

@@ -1,9 +1,9 @@
 -- All that an instruction can do, and that each does one of these: the one induction over the rules.
-use Rattle.std.specs.Prelude.{if◌then◌else◌}
+use Rattle.std.specs.Prelude.{if◌then◌else◌, None, Ok, Option, Result, Some}
 use mathlib.Core.Path.{◌≡◌, refl, sym, ap, ◌∙◌}
 use mathlib.Core.Bool.{Bool, true, false, ◌&&◌}
 use mathlib.Core.List.{List, [], ◌∷◌, map}
-use mathlib.Core.Option.{Option, none, some}
+use mathlib.Core.Option.{Option as Maybe, none, some}
 use Prim.Native.Nat.{ℕ, suc, ◌+◌, ◌-◌, ◌*◌, ◌≤◌, ◌<◌}
 use native.Mathlib.Omega.{arith}
 use borrow.Author.Tests.{ltb-true, ltb-false, leb-true, eqb-true, eqb-false, ne_eqb}
@@ -16,12 +16,8 @@ use Rattle.model.specs.declared.Decoded.{Decoded}
 use Rattle.model.specs.declared.Decoded.TheVariants as d
 use Rattle.model.specs.declared.Value.{Value}
 use Rattle.model.specs.declared.Value.TheVariants as v
-use Rattle.model.specs.declared.Last.{Last}
-use Rattle.model.specs.declared.Last.TheVariants.{Nothing, Is}
 use Rattle.model.specs.declared.Fault.{Fault}
 use Rattle.model.specs.declared.Fault.TheVariants as f
-use Rattle.model.specs.declared.Found.{Found}
-use Rattle.model.specs.declared.Found.TheVariants as g
 use Rattle.model.specs.declared.Frame.{Frame}
 use Rattle.model.specs.Scalars.{zero_divisor, result_of}
 use Rattle.model.specs.Heap.{Cell, built, build_of, list_elements, struct_fields, field_of}
@@ -47,7 +43,7 @@ pub data Plain : Value → Type 0 where
 pub data Held (w : World) (s : State) : Value → Type 0 where
   constant : (i : ℕ) → i < length w.constants → Held w s (get_or w.constants i (v.Boolean false))
   slot : (i : ℕ) → i < length s.stack → Held w s (get_or s.stack i (v.Boolean false))
-  last : {u : Value} → s.last ≡ Is u → Held w s u
+  last : {u : Value} → s.last ≡ Some u → Held w s u
 
 -- the two builds: the value that names a cell, the elements taken from the stack, the struct number
 pub data Makes : (ℕ → Value) → (ℕ → List Value → List Value) → ℕ → Type 0 where
@@ -80,7 +76,7 @@ pub data Does (w : World) (a : ℕ) (s t : State) : Outcome → Outcome → Type
       (went (with_stack r (with_frames (record { function = i; position = 0; base = length r - n; entered = s.spent }) (s.frame ∷ s.callers) t)))
   build : {c : ℕ → Value} {elements : ℕ → List Value → List Value} {k n : ℕ} {H : List Cell} → Builds w s c elements k n H → length (drop n s.stack) < w.stack_room
       → Does w a s t (went (with_stack (c (length s.heap) ∷ drop n s.stack) (with_heap H s))) (went (with_stack (c (length s.heap) ∷ drop n s.stack) (with_heap H t)))
-  field : {x : Value} {r : List Value} (p i : ℕ) → Below (v.StructInstance p ∷ r) s.stack → field_of s.heap p i ≡ g.Got x
+  field : {x : Value} {r : List Value} (p i : ℕ) → Below (v.StructInstance p ∷ r) s.stack → field_of s.heap p i ≡ Ok x
       → Does w a s t (went (with_stack (x ∷ r) s)) (went (with_stack (x ∷ r) t))
   back : {x : Value} {r : List Value} {c : Frame} {cs : List Frame} → Below (x ∷ r) s.stack → s.callers ≡ c ∷ cs
       → Does w a s t (went (with_stack (x ∷ cut s.frame.base r) (with_frames c cs s))) (went (with_stack (x ∷ cut s.frame.base r) (with_frames c cs t)))
@@ -114,7 +110,7 @@ second e h = rw (e, h) (under here)
 
 -- ---- a name that is found is a function's
 
-choose_less : (i n : ℕ) (x : Option ℕ) (b : Bool) (j : ℕ) → ((k : ℕ) → x ≡ some k → k < n) → i < n → or_else x (if b then some i else none) ≡ some j → j < n
+choose_less : (i n : ℕ) (x : Maybe ℕ) (b : Bool) (j : ℕ) → ((k : ℕ) → x ≡ some k → k < n) → i < n → or_else x (if b then some i else none) ≡ some j → j < n
 unfolding or_else
 choose_less i n none true j h l e = let z : i ≡ j = cc in omega arith
 choose_less i n none false j h l e = absurd (let z : ◌≡◌ {A = ℕ} 0 1 = cc in let y : ⊥ = omega arith in y)
@@ -136,7 +132,7 @@ module _ (w : World) (a : ℕ) (s : State) (u : ℕ) (h : s.units ≤ u) where
   abbrev D : Outcome → Outcome → Type 0
   D = Does w a s (with_units u s)
 
-  found_does : (x : Found) → ((y : Value) → x ≡ g.Got y → Held w s y) → D (on_found x s (λ y. pushing w y s)) (on_found x (with_units u s) (λ y. pushing w y (with_units u s)))
+  found_does : (x : Result Value Fault) → ((y : Value) → x ≡ Ok y → Held w s y) → D (on_found x s (λ y. pushing w y s)) (on_found x (with_units u s) (λ y. pushing w y (with_units u s)))
   found_does x g = on_found_each D x fault (λ y e. pushing_each D w s u y (fault f.StackFull) (push (g y e)))
 
   same_does : {x : Value} {r : List Value} (t : Bool → Bool) (z : Same) → Below (x ∷ r) s.stack → D (on_same t r s z) (on_same t r (with_units u s) z)
@@ -145,7 +141,7 @@ module _ (w : World) (a : ℕ) (s : State) (u : ℕ) (h : s.units ≤ u) where
   enter_does : {r : List Value} (i n : ℕ) → Below r s.stack → i < length w.functions → D (enter w i n r s) (enter w i n r (with_units u s))
   enter_does i n b l = enter_each D w s u i n _ fault (λ m g. call i n b l m g)
 
-  named_does : {r : List Value} (n : ℕ) (x : Option ℕ) → Below r s.stack → ((i : ℕ) → x ≡ some i → i < length w.functions) → D (enter_named w n r s x) (enter_named w n r (with_units u s) x)
+  named_does : {r : List Value} (n : ℕ) (x : Maybe ℕ) → Below r s.stack → ((i : ℕ) → x ≡ some i → i < length w.functions) → D (enter_named w n r s x) (enter_named w n r (with_units u s) x)
   unfolding enter_named
   named_does n none b l = fault f.NoFunction
   named_does n (some i) b l = enter_does i n b (l i refl)
@@ -168,18 +164,18 @@ module _ (w : World) (a : ℕ) (s : State) (u : ℕ) (h : s.units ≤ u) where
   unless_does true b = fall b
   unless_does false b = leap b
 
-  constant_held : (i : ℕ) (y : Value) → constant_of w.constants i ≡ g.Got y → Held w s y
+  constant_held : (i : ℕ) (y : Value) → constant_of w.constants i ≡ Ok y → Held w s y
   unfolding constant_of
   constant_held i y e = let (b, z) = got _ _ _ _ e in rw (sym z) (constant i (ltb-true _ _ b))
 
-  slot_held : (i : ℕ) (y : Value) → slot_of s.stack i ≡ g.Got y → Held w s y
+  slot_held : (i : ℕ) (y : Value) → slot_of s.stack i ≡ Ok y → Held w s y
   unfolding slot_of
   slot_held i y e = let (b, z) = got _ _ _ _ e in let l : i < length s.stack = ltb-true _ _ b in rw (sym z) (slot (length s.stack - suc i) (omega arith))
 
-  last_held : (x : Last) → s.last ≡ x → (y : Value) → last_of x ≡ g.Got y → Held w s y
+  last_held : (x : Option Value) → s.last ≡ x → (y : Value) → last_of x ≡ Ok y → Held w s y
   unfolding last_of
-  last_held Nothing q y e = absurd (let z : ◌≡◌ {A = ℕ} 0 1 = cc in let y : ⊥ = omega arith in y)
-  last_held (Is x) q y e = last (let z : x ≡ y = cc in q ∙ ap Is z)
+  last_held None q y e = absurd (let z : ◌≡◌ {A = ℕ} 0 1 = cc in let y : ⊥ = omega arith in y)
+  last_held (Some x) q y e = last (let z : x ≡ y = cc in q ∙ ap Some z)
 
   -- a line for each opcode
   pub exec_does : (p : Op) (b : ℕ) → D (exec_of w p a b s) (exec_of w p a b (with_units u s))

@@ -1,5 +1,5 @@
 -- Good order as a run judges it, over counts and lent stores, and as the rules keep it, over worlds and machines: from each to the other.
-use Rattle.std.specs.Prelude.{if◌then◌else◌}
+use Rattle.std.specs.Prelude.{if◌then◌else◌, None, Option, Some}
 use mathlib.Core.Path.{◌≡◌, refl}
 use mathlib.Core.Bool.{Bool, true, false, not, ◌&&◌, ◌||◌}
 use mathlib.Core.List.{List}
@@ -10,8 +10,7 @@ use lib.Dec.{leb, ltb, eqb}
 use lib.ListN.{length}
 use Rattle.model.specs.declared.Vm.{Vm}
 use Rattle.model.specs.declared.Value.TheVariants as v
-use Rattle.model.specs.declared.Last.{Last}
-use Rattle.model.specs.declared.Last.TheVariants.{Nothing, Is}
+use Rattle.model.specs.declared.Value.{Value}
 use Rattle.model.specs.Basics.{every_from}
 use Rattle.model.specs.Values.{places, kind_at, payload_at, value_at, vals, exact_value}
 use Rattle.model.specs.Heap.{Cell, cells_from, heap_of, blocks_from, heap_ok, exact_cells, placed_below}
@@ -202,24 +201,24 @@ module _ (t : ℕ) (H : List Cell) where
         (every_to slot_ok n 0 (λ i l g. and_both (exact_value (kind_at stack i) (payload_at stack i)) (placed_below t H (length H) (value_at stack i))
         (f i (omega arith)) (vals_all n stack a i (omega arith))))
 
-  last_of_lem : (x : Last) → last_ok t H x ≡ true → LastPlaced t H x
+  last_of_lem : (x : Option Value) → last_ok t H x ≡ true → LastPlaced t H x
   unfolding last_ok LastPlaced
-  last_of_lem Nothing e = tt
-  last_of_lem (Is y) e = e
+  last_of_lem None e = tt
+  last_of_lem (Some y) e = e
 
-  last_to : (x : Last) → LastPlaced t H x → last_ok t H x ≡ true
+  last_to : (x : Option Value) → LastPlaced t H x → last_ok t H x ≡ true
   unfolding last_ok LastPlaced
-  last_to Nothing p = refl
-  last_to (Is y) p = p
+  last_to None p = refl
+  last_to (Some y) p = p
 
 -- ---- the last result of a run under way; none is whether it has completed no root Return
 
-answer_of : (none : Bool) (x : Last) → (none || some_last x) ≡ true → some_last (if none then Nothing else x) ≡ not none
+answer_of : (none : Bool) (x : Option Value) → (none || some_last x) ≡ true → some_last (if none then None else x) ≡ not none
 unfolding some_last
 answer_of true x e = refl
 answer_of false x e = e
 
-pub answer_to : (none : Bool) (x : Last) → some_last (if none then Nothing else x) ≡ not none → (none || some_last x) ≡ true
+pub answer_to : (none : Bool) (x : Option Value) → some_last (if none then None else x) ≡ not none → (none || some_last x) ≡ true
 answer_to true x e = refl
 answer_to false x e = e
 

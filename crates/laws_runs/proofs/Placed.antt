@@ -1,4 +1,5 @@
 -- Values stay placed: what pops leave of a stack, what cells behind a heap change, what a build and a field give.
+use Rattle.std.specs.Prelude.{None, Ok, Option, Some}
 use mathlib.Core.Path.{◌≡◌, refl, sym}
 use mathlib.Core.Bool.{true, false}
 use mathlib.Core.List.{List, [], ◌∷◌, ◌++◌, reverse_aux}
@@ -8,9 +9,6 @@ use borrow.Author.Tests.{ltb-true}
 use lib.ListN.{length, get_or, take, drop, length-append}
 use Rattle.model.specs.declared.Value.{Value}
 use Rattle.model.specs.declared.Value.TheVariants as v
-use Rattle.model.specs.declared.Found.TheVariants as g
-use Rattle.model.specs.declared.Last.{Last}
-use Rattle.model.specs.declared.Last.TheVariants.{Nothing, Is}
 use Rattle.model.specs.Heap.{Cell, list_elements, struct_fields, field_of, head_in, heap_ok, placed_below}
 use Rattle.model.specs.Steps.{World, State}
 use Rattle.cells.proofs.Order.{Every, nil, cons, Placed, placed_more, struct_of, good_of}
@@ -70,10 +68,10 @@ unfolding AllPlaced
 all_grows t g [] a = tt
 all_grows t g (x ∷ vs) a = (grows_placed t g x a.0, all_grows t g vs a.1)
 
-pub last_grows : (t : ℕ) {H H' : List Cell} → Grows H H' → (l : Last) → LastPlaced t H l → LastPlaced t H' l
+pub last_grows : (t : ℕ) {H H' : List Cell} → Grows H H' → (l : Option Value) → LastPlaced t H l → LastPlaced t H' l
 unfolding LastPlaced
-last_grows t g Nothing a = tt
-last_grows t g (Is x) a = grows_placed t g x a
+last_grows t g None a = tt
+last_grows t g (Some x) a = grows_placed t g x a
 
 made_placed : {t : ℕ} {H : List Cell} {k : ℕ} {H' : List Cell} {c : ℕ → Value} {elements : ℕ → List Value → List Value} → Makes c elements k → Keeps t H k H' → Placed t H' (length H') (c (length H))
 made_placed list k = k.list refl
@@ -98,7 +96,7 @@ built_made t {w} {s} {elements = elements} {k = k} {n = n} {H = H} e a b =
     }
 
 -- the fields of a struct in a good heap are placed
-pub field_placed : (t : ℕ) (H : List Cell) → heap_ok t H ≡ true → (p i : ℕ) {x : Value} → Placed t H (length H) (v.StructInstance p) → field_of H p i ≡ g.Got x → Placed t H (length H) x
+pub field_placed : (t : ℕ) (H : List Cell) → heap_ok t H ≡ true → (p i : ℕ) {x : Value} → Placed t H (length H) (v.StructInstance p) → field_of H p i ≡ Ok x → Placed t H (length H) x
 unfolding field_of
 field_placed t H e p i {x} s q =
     let (b, z) = got _ _ _ _ q in

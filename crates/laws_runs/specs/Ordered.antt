@@ -1,7 +1,6 @@
 -- Good order as a run judges it, in parts; and what a machine needs to be in good order beside one that is.
-use Rattle.std.specs.Prelude.{◌≡◌, true, ◌||◌, ℕ, ◌≤◌, ◌<◌, eqb, length, get_or}
+use Rattle.std.specs.Prelude.{◌≡◌, true, ◌||◌, ℕ, ◌≤◌, ◌<◌, eqb, length, get_or, None}
 use Rattle.model.specs.declared.Vm.{Vm}
-use Rattle.model.specs.declared.Last.TheVariants.{Nothing}
 use Rattle.model.specs.Values.{places, kind_at, payload_at, exact_value}
 use Rattle.model.specs.Heap.{heap_of, exact_cells}
 use Rattle.model.specs.Runs.{root}
@@ -56,7 +55,7 @@ pub record Beside (m : Vm) (l : Lent) (m' : Vm) (l' : Lent) : Type 0 where
 pub record Fresh (m : Vm) (l : Lent) : Type 0 where
   pub stack : m.stack ≡ 0
   pub cells : m.cells ≡ 0
-  pub last : m.last ≡ Nothing
+  pub last : m.last ≡ None
   pub frames : m.frames ≡ 1
   pub run : m.run ≡ no_run
   pub room : 1 ≤ length l.frames

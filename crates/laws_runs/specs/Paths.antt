@@ -1,8 +1,6 @@
 -- The written steps of a run, one after another.
-use Rattle.std.specs.Prelude.{◌≡◌, true, false, not, List, ◌++◌, ℕ, suc, ◌+◌, ◌≤◌, ◌<◌, eqb}
+use Rattle.std.specs.Prelude.{◌≡◌, true, false, not, List, ◌++◌, ℕ, suc, ◌+◌, ◌≤◌, ◌<◌, eqb, Option, Some}
 use Rattle.model.specs.declared.Value.{Value}
-use Rattle.model.specs.declared.Last.{Last}
-use Rattle.model.specs.declared.Last.TheVariants.{Is}
 use Rattle.model.specs.declared.Fault.{Fault}
 use Rattle.model.specs.Heap.{Cell}
 use Rattle.model.specs.Steps.{World, State, Outcome, went, returned, faulted, short, with_units, step_of}
@@ -31,9 +29,9 @@ pub record Grows (H H' : List Cell) : Type 0 where
   pub is : H' ≡ H ++ more
 
 -- of a step where the heap was H and the last result l: the heap only grows; only a completed root Return sets the last result, and it builds nothing
-abbrev pub Adds : List Cell → Last → Outcome → Type 0
+abbrev pub Adds : List Cell → Option Value → Outcome → Type 0
 Adds H l (went s) = Grows H s.heap × (s.last ≡ l)
-Adds H l (returned x s) = (s.heap ≡ H) × (s.last ≡ Is x)
+Adds H l (returned x s) = (s.heap ≡ H) × (s.last ≡ Some x)
 Adds H l (faulted n s) = Grows H s.heap × (s.last ≡ l)
 Adds H l short = Unit
 

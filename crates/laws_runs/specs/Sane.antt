@@ -1,8 +1,6 @@
 -- What good order says of a running machine, over the rules' own records.
-use Rattle.std.specs.Prelude.{◌≡◌, true, List, [], ◌∷◌, ℕ, suc, ◌≤◌, ◌<◌, length, get_or}
+use Rattle.std.specs.Prelude.{◌≡◌, true, List, [], ◌∷◌, ℕ, suc, ◌≤◌, ◌<◌, length, get_or, None, Option, Some}
 use Rattle.model.specs.declared.Value.{Value}
-use Rattle.model.specs.declared.Last.{Last}
-use Rattle.model.specs.declared.Last.TheVariants.{Nothing, Is}
 use Rattle.model.specs.declared.Frame.{Frame}
 use Rattle.model.specs.Heap.{Cell, heap_ok, placed_below}
 use Rattle.model.specs.Programs.{Function, function_at}
@@ -14,9 +12,9 @@ unfoldable pub AllPlaced : ℕ → List Cell → List Value → Type 0
 AllPlaced t H [] = Unit
 AllPlaced t H (v ∷ vs) = (placed_below t H (length H) v ≡ true) × AllPlaced t H vs
 
-unfoldable pub LastPlaced : ℕ → List Cell → Last → Type 0
-LastPlaced t H Nothing = Unit
-LastPlaced t H (Is v) = placed_below t H (length H) v ≡ true
+unfoldable pub LastPlaced : ℕ → List Cell → Option Value → Type 0
+LastPlaced t H None = Unit
+LastPlaced t H (Some v) = placed_below t H (length H) v ≡ true
 
 unfoldable pub CodesFit : List Function → Type 0
 CodesFit [] = Unit
@@ -81,7 +79,7 @@ pub record SameFrames (s s' : State) : Type 0 where
 
 pub record Returns (w : World) (s : State) (x : Value) (s' : State) : Type 0 where
   pub sane : Sane w s'
-  pub last : s'.last ≡ Is x
+  pub last : s'.last ≡ Some x
   pub frames : SameFrames s s'
 
 -- a fault has dropped and added no frame, and its backtrace stands

@@ -1,9 +1,9 @@
 -- Arms of the Rust, each of which does what the rules' step does from a state whose operands are read: values that are held, numbers, logic, jumps.
-use Rattle.std.specs.Prelude.{if◌then◌else◌}
+use Rattle.std.specs.Prelude.{if◌then◌else◌, Err, None, Ok, Option, Some}
 use mathlib.Core.Path.{◌≡◌, refl, sym, ap, ◌∙◌}
 use mathlib.Core.Bool.{Bool, true, false, not, ◌&&◌, ◌||◌}
 use mathlib.Core.List.{List, [], ◌∷◌, map, reverse}
-use Prim.Native.Nat.{ℕ, ◌+◌, ◌-◌, ◌<◌}
+use Prim.Native.Nat.{ℕ, ◌+◌, ◌<◌}
 use native.Mathlib.Omega.{arith}
 use borrow.Author.Tests.{ltb-true, ltb-false}
 use lib.Dec.{ltb}
@@ -17,10 +17,7 @@ use Rattle.model.specs.declared.Order.{Order}
 use Rattle.model.specs.declared.Order.TheVariants as c
 use Rattle.model.specs.declared.Value.{Value}
 use Rattle.model.specs.declared.Value.TheVariants as v
-use Rattle.model.specs.declared.Last.{Last}
-use Rattle.model.specs.declared.Last.TheVariants.{Nothing, Is}
 use Rattle.model.specs.declared.Fault.TheVariants as f
-use Rattle.model.specs.declared.Found.TheVariants as g
 use Rattle.model.specs.Values.{popping_scalar}
 use Rattle.model.specs.Scalars.{arith_of, finite, result_of, zero_divisor, order_of}
 use Rattle.model.specs.Heap.{heap_ok, blocks_from}
@@ -59,7 +56,7 @@ module _ (w : World) (s : State) where
       on false = tt
 
   found_or : (b : Bool) (x : Value) (d : Did) → (b ≡ true → Agrees w (pushing w x s) d) → (b ≡ false → d ≡ panic)
-      → Agrees w (on_found (if b then g.Got x else g.Bad f.OutOfRange) s (λ y. pushing w y s)) d
+      → Agrees w (on_found (if b then Ok x else Err f.OutOfRange) s (λ y. pushing w y s)) d
   unfolding on_found Agrees FaultsAs Panics
   found_or true x d there past = there refl
   found_or false x d there past = agrees_as w (faulted f.OutOfRange s) (past refl) tt
@@ -86,10 +83,10 @@ module _ (w : World) (s : State) where
       (λ e. agrees_as w _ (slot_there tree s.stack i _ (ltb-true _ _ e)) (pushes _ _ refl))
       (λ e. index_past (reverse (map tree s.stack)) i _ (omega (arith, ltb-false)))
 
-  last_or : (l : Last) → Agrees w (on_found (last_of l) s (λ x. pushing w x s)) (rust.unwrap (last_in w.text s.heap l) (λ m. rust.went (push (rust_at w s) m)))
+  last_or : (l : Option Value) → Agrees w (on_found (last_of l) s (λ x. pushing w x s)) (rust.unwrap (last_in w.text s.heap l) (λ m. rust.went (push (rust_at w s) m)))
   unfolding on_found last_of rust.unwrap Agrees FaultsAs Panics
-  last_or Nothing = tt
-  last_or (Is x) = pushes x (tree x) refl
+  last_or None = tt
+  last_or (Some x) = pushes x (tree x) refl
 
   pub gets_last : Agrees w (last_step w s) (rust.unwrap (rust_at w s).last_result_lem (λ m. rust.went (push (rust_at w s) m)))
   unfolding last_step rust_of

@@ -1,14 +1,14 @@
 -- The other way: what the Rust comes to is what the rules answer, if they meet no limit and, on a strict machine, do not fault by 26. More turns change nothing of an end.
+use Rattle.std.specs.Prelude.{None, Option, Some}
 use mathlib.Core.Path.{◌≡◌, refl, sym, ap, subst, ◌∙◌}
 use mathlib.Core.Bool.{Bool, true, false, ◌&&◌, true≢false}
-use mathlib.Core.Option.{Option, none, some}
+use mathlib.Core.Option.{Option as Maybe, none, some}
 use Prim.Native.Nat.{ℕ, zero, suc, ◌+◌, ◌≤◌}
 use native.Mathlib.Omega.{arith}
 use lib.ListN.{length}
-use Rattle.model.specs.declared.Last.{Last}
-use Rattle.model.specs.declared.Last.TheVariants.{Nothing, Is}
 use Rattle.model.specs.declared.Tally.{Tally}
 use Rattle.model.specs.declared.Fault.TheVariants as f
+use Rattle.model.specs.declared.Value.{Value}
 use Rattle.model.specs.Values.{fault_number}
 use Rattle.model.specs.Trees.{Tree}
 use Rattle.model.specs.Steps.{World, State}
@@ -21,7 +21,7 @@ use Rattle.laws_rust.proofs.Loop.{run_same}
 
 -- ---- more turns
 
-module _ (loop loop' : Option Tree → Vm → Result) (same : (r : Option Tree) (vm : Vm) → Ends (loop r vm) → loop' r vm ≡ loop r vm) (r : Option Tree) where
+module _ (loop loop' : Maybe Tree → Vm → Result) (same : (r : Maybe Tree) (vm : Vm) → Ends (loop r vm) → loop' r vm ≡ loop r vm) (r : Maybe Tree) where
   behind_same : (d : Did) → Ends (rust.behind loop r d) → rust.behind loop' r d ≡ rust.behind loop r d
   unfolding rust.behind
   behind_same (rust.went vm) e = same r vm e
@@ -31,13 +31,13 @@ module _ (loop loop' : Option Tree → Vm → Result) (same : (r : Option Tree) 
   behind_same rust.cast e = refl
   behind_same rust.not_carried e = refl
 
-  test_same : (vm : Vm) (b : Option Bool) → Ends (rust.test loop r vm b) → rust.test loop' r vm b ≡ rust.test loop r vm b
+  test_same : (vm : Vm) (b : Maybe Bool) → Ends (rust.test loop r vm b) → rust.test loop' r vm b ≡ rust.test loop r vm b
   unfolding rust.test
   test_same vm none e = refl
   test_same vm (some true) e = refl
   test_same vm (some false) e = behind_same (rust.turn vm) e
 
-loop_more : (n k : ℕ) (r : Option Tree) (vm : Vm) → Ends (run_without_cleanup n r vm) → run_without_cleanup (n + k) r vm ≡ run_without_cleanup n r vm
+loop_more : (n k : ℕ) (r : Maybe Tree) (vm : Vm) → Ends (run_without_cleanup n r vm) → run_without_cleanup (n + k) r vm ≡ run_without_cleanup n r vm
 unfolding run_without_cleanup
 loop_more zero k r vm e = absurd e
 loop_more (suc n) k r vm e =
@@ -69,10 +69,10 @@ ends_same w good few m u sane turns e =
     subst (RunAs w (run_of w m u).machine (end_of w (begin m u))) same (run_same w good few m u sane turns)
 
 module _ (w : World) (m : Machine) (u : ℕ) where
-  answered_so : (s : State) (a : Last) (t : Tally) → Means w (machine_of s) (answered a t) (last_in w.text s.heap a)
+  answered_so : (s : State) (a : Option Value) (t : Tally) → Means w (machine_of s) (answered a t) (last_in w.text s.heap a)
   unfolding Means answered
-  answered_so s Nothing t = refl
-  answered_so s (Is x) t = refl
+  answered_so s None t = refl
+  answered_so s (Some x) t = refl
 
   answers_as : (e : Ended) {x y : Result} → x ≡ y → AnswersAs w (given_up w (part_of w m.stack u e)) y → AnswersAs w (given_up w (part_of w m.stack u e)) x
   answers_as e q a = subst (AnswersAs w (given_up w (part_of w m.stack u e))) (sym q) a
@@ -113,7 +113,7 @@ rust_same w good few m u sane l turns = on (rust.run turns (rust_of w m)) (ends_
 
 -- so, if the Rust answers Ok, the rules answer that value, or "continue", and leave a machine that is the Rust's
 pub ok_same : (w : World) → SaneWorld w → length w.functions ≤ 65536 → (m : Machine) (u : ℕ) → Sane w (begin m u) → Unlimited w (end_of w (begin m u))
-    → (turns : ℕ) (r : Option Tree) (vm : Vm) → rust.run turns (rust_of w m) ≡ rust.ok r vm
+    → (turns : ℕ) (r : Maybe Tree) (vm : Vm) → rust.run turns (rust_of w m) ≡ rust.ok r vm
     → Means w (run_of w m u).machine (run_of w m u).reply r × (vm ≡ rust_of w (run_of w m u).machine)
 unfolding AnswersAs
 ok_same w good few m u sane l turns r vm e = subst (AnswersAs w (run_of w m u)) e (rust_same w good few m u sane l turns)

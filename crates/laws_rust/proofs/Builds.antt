@@ -1,5 +1,5 @@
 -- The arms that look into cells, of which the Rust knows nothing: `==`, a field, a struct and a list built.
-use Rattle.std.specs.Prelude.{if◌then◌else◌}
+use Rattle.std.specs.Prelude.{if◌then◌else◌, Err, Ok}
 use mathlib.Core.Path.{◌≡◌, refl, sym, ap, subst, ◌∙◌}
 use mathlib.Core.Bool.{Bool, true, false}
 use mathlib.Core.List.{List, [], ◌∷◌, ◌++◌, reverse}
@@ -11,7 +11,6 @@ use lib.ListN.{length, take, drop}
 use Rattle.model.specs.declared.Value.{Value}
 use Rattle.model.specs.declared.Value.TheVariants as v
 use Rattle.model.specs.declared.Fault.TheVariants as f
-use Rattle.model.specs.declared.Found.TheVariants as g
 use Rattle.model.specs.Heap.{Cell, built, unbuilt, build_of, block_of, deepest, head_in, elements_in, item_in, field_of, list_elements, struct_fields}
 use Rattle.model.specs.Equality.{Same}
 use Rattle.model.specs.Trees.{Tree, trees_of, tree_of, meaning_to, meaning, boolean, list, struct, none as end}
@@ -60,13 +59,13 @@ module _ (w : World) (s : State) where
 
     field_or : (p i : ℕ) (r : List Value) → Placed (length w.text) s.heap (length s.heap) (v.StructInstance p)
         → (b : Bool) → ltb i (head_in s.heap p).count ≡ b
-        → Agrees w (on_found (if b then g.Got (item_in s.heap (suc p + i)) else g.Bad f.OutOfRange) s (λ x. went (with_stack (x ∷ r) s)))
+        → Agrees w (on_found (if b then Ok (item_in s.heap (suc p + i)) else Err f.OutOfRange) s (λ x. went (with_stack (x ∷ r) s)))
         (rust.swap_remove (trees_of tree (elements_in s.heap p)) i (λ m. rust.went (push (rust_at w (with_stack r s)) m)))
     unfolding on_found push rust_of Agrees FaultsAs Panics
     field_or p i r placed true e =
         let means : tree (v.StructInstance p) ≡ struct (head_in s.heap p).number (trees_of tree (elements_in s.heap p)) =
         unfold tree_of in meaning_step w.text s.heap (good_of (length w.text) s.heap h.heap) (v.StructInstance p) placed in
-        let found : field_of s.heap p i ≡ g.Got (item_in s.heap (suc p + i)) = unfold field_of in rw e in
+        let found : field_of s.heap p i ≡ Ok (item_in s.heap (suc p + i)) = unfold field_of in rw e in
         removed_at _ (field_is w.text s.heap h.heap p i placed _ found _ _ means)
     field_or p i r placed false e =
         let n = length_elements s.heap p in

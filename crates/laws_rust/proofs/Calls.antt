@@ -16,7 +16,7 @@ use Rattle.model.specs.declared.Frame.{Frame}
 use Rattle.model.specs.Values.{popping}
 use Rattle.model.specs.Programs.{function_named}
 use Rattle.model.specs.Trees.{Tree, meaning}
-use Rattle.model.specs.Steps.{World, State, went, faulted, with_stack, with_frames, position, enter, call_step, enter_named, call_callable_step, cut, return_to, return_step}
+use Rattle.model.specs.Steps.{World, State, went, faulted, with_stack, with_frames, enter, call_step, enter_named, call_callable_step, cut, return_to, return_step}
 use Rattle.cells.proofs.Order.{by_less}
 use Rattle.laws_rust.specs.Vm as rust
 use Rattle.laws_rust.specs.Vm.{panic}

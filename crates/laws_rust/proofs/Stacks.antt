@@ -1,4 +1,5 @@
 -- Lists of values and lists of what they mean: the bottom's slots, the shortened stack, what a build pops; and cells added above change none of it.
+use Rattle.std.specs.Prelude.{None, Option, Some}
 use mathlib.Core.Path.{◌≡◌, refl, sym, ap, ◌∙◌}
 use mathlib.Core.Bool.{true, false}
 use mathlib.Core.List.{List, [], ◌∷◌, map, reverse, reverse_aux}
@@ -10,8 +11,6 @@ use borrow.Author.Tests.{lt-ltb, le-ltb}
 use lib.ListN.{length, get_or, take, drop, length-map, length-reverse_aux, get_or-map}
 use Rattle.model.specs.declared.Value.{Value}
 use Rattle.model.specs.declared.Value.TheVariants as v
-use Rattle.model.specs.declared.Last.{Last}
-use Rattle.model.specs.declared.Last.TheVariants.{Nothing, Is}
 use Rattle.model.specs.Heap.{Cell, heap_ok}
 use Rattle.model.specs.Trees.{Tree, Trees, trees_of, meaning, more}
 use Rattle.cells.proofs.Order.{by_less}
@@ -25,7 +24,7 @@ use Rattle.laws_rust.proofs.Reading.{index_there}
 -- ---- cells added above
 
 module _ (t : List ℕ) {H K : List Cell} (good : heap_ok (length t) H ≡ true) (g : Grows H K) where
-  pub meaning_grown : (x : Value) → LastPlaced (length t) H (Is x) → meaning t K x ≡ meaning t H x
+  pub meaning_grown : (x : Value) → LastPlaced (length t) H (Some x) → meaning t K x ≡ meaning t H x
   unfolding LastPlaced
   meaning_grown x p = ap (λ (L : List Cell). meaning t L x) g.is ∙ meaning_kept t H g.more good x p
 
@@ -34,9 +33,9 @@ module _ (t : List ℕ) {H K : List Cell} (good : heap_ok (length t) H ≡ true)
   stack_grown [] a = refl
   stack_grown (x ∷ vs) a = rw (meaning_grown x a.0, stack_grown vs a.1)
 
-  pub last_grown : (l : Last) → LastPlaced (length t) H l → last_in t K l ≡ last_in t H l
-  last_grown Nothing a = refl
-  last_grown (Is x) a = ap some (meaning_grown x a)
+  pub last_grown : (l : Option Value) → LastPlaced (length t) H l → last_in t K l ≡ last_in t H l
+  last_grown None a = refl
+  last_grown (Some x) a = ap some (meaning_grown x a)
 
 -- ---- a slot, counted from the bottom
 

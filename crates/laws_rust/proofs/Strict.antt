@@ -1,9 +1,9 @@
 -- 26 COMES OF A STRICT MACHINE ALONE: so what is said of the Rust leaves nothing out for it on a machine that is not strict.
-use Rattle.std.specs.Prelude.{if◌then◌else◌}
+use Rattle.std.specs.Prelude.{if◌then◌else◌, Err, None, Ok, Option, Some}
 use mathlib.Core.Path.{◌≡◌, refl, sym, subst, ◌∙◌}
 use mathlib.Core.Bool.{Bool, true, false, ◌&&◌, true≢false}
 use mathlib.Core.List.{List, [], ◌∷◌}
-use mathlib.Core.Option.{Option, none, some}
+use mathlib.Core.Option.{Option as Maybe, none, some}
 use Prim.Native.Nat.{ℕ, suc, ◌+◌, ◌*◌}
 use native.Mathlib.Omega.{arith}
 use lib.Dec.{ltb, leb, eqb}
@@ -14,11 +14,8 @@ use Rattle.model.specs.declared.Op.TheVariants as o
 use Rattle.model.specs.declared.Decoded.{Decoded}
 use Rattle.model.specs.declared.Decoded.TheVariants as d
 use Rattle.model.specs.declared.Value.{Value}
-use Rattle.model.specs.declared.Last.{Last}
-use Rattle.model.specs.declared.Last.TheVariants.{Nothing, Is}
 use Rattle.model.specs.declared.Fault.{Fault}
 use Rattle.model.specs.declared.Fault.TheVariants as f
-use Rattle.model.specs.declared.Found.TheVariants as g
 use Rattle.model.specs.declared.Frame.{Frame}
 use Rattle.model.specs.declared.Tally.{Tally}
 use Rattle.model.specs.Values.{fault_number, popping, popping_scalar, popping_boolean}
@@ -84,15 +81,15 @@ module _ (w : World) where
     unfolding pushing
     push_tells x = if_tells (ltb (length s.stack) w.stack_room) (λ e. goes) (faults tt)
 
-    found_tells : (c : Bool) (x : Value) (next : Value → Outcome) → T (next x) → T (on_found (if c then g.Got x else g.Bad f.OutOfRange) s next)
+    found_tells : (c : Bool) (x : Value) (next : Value → Outcome) → T (next x) → T (on_found (if c then Ok x else Err f.OutOfRange) s next)
     unfolding on_found
     found_tells true x next q = q
     found_tells false x next q = faults tt
 
-    last_tells : (x : Last) → T (on_found (last_of x) s (λ y. pushing w y s))
+    last_tells : (x : Option Value) → T (on_found (last_of x) s (λ y. pushing w y s))
     unfolding on_found last_of
-    last_tells Nothing = faults tt
-    last_tells (Is x) = push_tells x
+    last_tells None = faults tt
+    last_tells (Some x) = push_tells x
 
     same_tells : (t : Bool → Bool) (q : List Value) (x : Same) → T (on_same t q s x)
     unfolding on_same
@@ -102,7 +99,7 @@ module _ (w : World) where
     unfolding enter
     enter_tells i n r = if_tells (ltb (length r) n) (λ e. faults tt) (if_tells (leb w.frame_room (suc (length s.callers))) (λ e. faults tt) goes)
 
-    named_tells : (n : ℕ) (r : List Value) (x : Option ℕ) → T (enter_named w n r s x)
+    named_tells : (n : ℕ) (r : List Value) (x : Maybe ℕ) → T (enter_named w n r s x)
     unfolding enter_named
     named_tells n r none = faults tt
     named_tells n r (some i) = enter_tells i n r

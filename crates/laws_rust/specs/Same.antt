@@ -1,11 +1,10 @@
 -- [same] What it is that the rules and the Rust do the same: the Rust's state is what the rules' state means.
-use Rattle.std.specs.Prelude.{◌≡◌, Bool, true, false, ◌&&◌, ◌||◌, List, [], ◌∷◌, map, ℕ, leb, eqb, Float}
-use Rattle.std.proofs.Math.Option.{Option, none, some}
-use Rattle.model.specs.declared.Last.{Last}
-use Rattle.model.specs.declared.Last.TheVariants.{Nothing, Is}
+use Rattle.std.specs.Prelude.{◌≡◌, Bool, true, false, ◌&&◌, ◌||◌, List, [], ◌∷◌, map, ℕ, leb, eqb, Float, None, Option, Some}
+use Rattle.std.proofs.Math.Option.{Option as Maybe, none, some}
 use Rattle.model.specs.declared.Fault.{Fault}
 use Rattle.model.specs.declared.Fault.TheVariants as f
 use Rattle.model.specs.declared.Frame.{Frame}
+use Rattle.model.specs.declared.Value.{Value}
 use Rattle.model.specs.Values.{fault_number}
 use Rattle.model.specs.Scalars.{finite}
 use Rattle.model.specs.Heap.{Cell}
@@ -24,9 +23,9 @@ chunk_of f = record { name = f.name; code = f.code }
 abbrev pub frame_of : Frame → CallFrame
 frame_of f = record { function_idx_lem = f.function; ip = f.position; fp = f.base }
 
-abbrev pub last_in : List ℕ → List Cell → Last → Option Tree
-last_in t H Nothing = none
-last_in t H (Is v) = some (meaning t H v)
+abbrev pub last_in : List ℕ → List Cell → Option Value → Maybe Tree
+last_in t H None = none
+last_in t H (Some v) = some (meaning t H v)
 
 -- a machine between runs, and so the state of a run: units, when frames were entered, cells, and the setting are not the Rust's
 unfoldable pub rust_of : World → Machine → Vm
@@ -132,7 +131,7 @@ Unlimited w (stopped n s k) = not_the_rusts w.strict (fault_number n) ≡ false
 Unlimited w (paused k s) = ⊥
 
 -- the answer is that value, or "continue" if there is none
-unfoldable pub Means : World → Machine → Reply → Option Tree → Type 0
+unfoldable pub Means : World → Machine → Reply → Maybe Tree → Type 0
 Means w left (value x t) r = r ≡ some (meaning w.text left.heap x)
 Means w left (continue t) r = r ≡ none
 Means w left (fault n t es) r = ⊥

@@ -1,10 +1,10 @@
 -- Names in the order that a struct store tells, as the code reads them.
 use mathlib.Core.Path.{◌≡◌, ◌∙◌}
-use mathlib.Core.Bool.{Bool, false, ◌&&◌}
+use mathlib.Core.Bool.{Bool, ◌&&◌}
 use mathlib.Core.List.{List}
-use Prim.Native.Nat.{ℕ, ◌≤◌, ◌<◌}
+use Prim.Native.Nat.{ℕ, ◌<◌}
 use lib.Dec.{ltb}
-use borrow.Author.Tests.{lt-ltb, le-ltb}
+use borrow.Author.Tests.{lt-ltb}
 use Rattle.model.specs.Values.{kind_at, payload_at}
 use Rattle.model.specs.Equality.{same_bytes}
 use Rattle.model.specs.Programs.{before}
@@ -27,6 +27,3 @@ middle_is ss t i w p name b ew ep eb = eb ∙ rw (name_here ss t i w p ew ep)
 pub stands_is : (ss t : List ℕ) (at n w : ℕ) (p name : List ℕ) (b : Bool) → at < n → w ≡ struct_word ss (order_word ss at) → p ≡ part t w → b ≡ same_bytes name p
     → b ≡ (ltb at n && same_bytes name (name_in_order ss t at))
 stands_is ss t at n w p name b h ew ep eb = rw (lt-ltb at n h) (eb ∙ rw (name_here ss t at w p ew ep))
-
-pub stands_not : (ss t : List ℕ) (at n : ℕ) (name : List ℕ) → n ≤ at → false ≡ (ltb at n && same_bytes name (name_in_order ss t at))
-stands_not ss t at n name h = rw (le-ltb at n h)

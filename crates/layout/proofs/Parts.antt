@@ -1,20 +1,19 @@
 -- Words, parts and bytes.
-use mathlib.Core.Path.{◌≡◌, refl, sym, ap, ◌∙◌}
-use mathlib.Core.Bool.{Bool, true, false, ◌&&◌}
+use mathlib.Core.Path.{◌≡◌, refl, sym, ◌∙◌}
 use mathlib.Core.List.{List, [], ◌∷◌}
 use Prim.Native.Nat.{ℕ, zero, suc, ◌+◌, ◌-◌, ◌*◌, ◌/◌, ◌≤◌, ◌<◌, ◌^◌, min}
 use native.Mathlib.Omega.{arith}
 use native.Mathlib.Nat.{min-eq_left, min-eq_right, min-le_left, min-le_right}
-use native.Mathlib.Numerals.{add-one}
-use lib.Dec.{eqb, leb, eqb-suc-suc}
+use lib.Dec.{eqb, leb}
 use lib.ListN.{length, get_or, take, drop, length-drop, drop_of_length-le, get_or-eq_default}
-use lib.Seq.{take_all, drop-cons, take-nil}
-use borrow.Author.Tests.{ne_eqb, eq-eqb, leb-true, leb-false}
+use lib.Seq.{take_all, take-nil}
+use borrow.Author.Tests.{leb-true, leb-false}
+use Rattle.std.specs.Cmp.Lexicographic.{pointwise}
 use Rattle.model.specs.Values.{places, most_places, kind_at, payload_at, text_at}
 use Rattle.model.specs.Equality.{same_bytes}
 use Rattle.model.specs.Stores.{start, size, pack, part, code_word, code_end}
 use Rattle.model.specs.Orders.{code_start}
-use Rattle.layout.proofs.Bools.{apart, either_way, and_right, and_not}
+use Rattle.layout.proofs.Bools.{either_way}
 
 -- ---- rooms
 
@@ -45,13 +44,6 @@ places_same zero a b e = refl
 places_same (suc w) a b e = rw e
 
 -- ---- words
-
-pub last_never : (i n : ℕ) → n ≡ 0 → false ≡ eqb (suc i) n
-last_never i n e = sym (ne_eqb _ _ (λ (f : suc i ≡ n). omega arith))
-
-pub last_is : (i n : ℕ) → (n ≡ 0 → ⊥) → eqb i (n - 1) ≡ eqb (suc i) n
-last_is i zero h = absurd (h refl)
-last_is i (suc n) h = let z : suc n - 1 ≡ n = omega arith in rw z (sym (eqb-suc-suc i n))
 
 pub start_pack : (o n : ℕ) → o < 2 ^ 32 → start (pack o n) ≡ o
 unfolding start pack
@@ -118,45 +110,9 @@ part_is t w o n from to eo en ef et =
 
 -- ---- bytes
 
-same_lengths : (a b : List ℕ) → same_bytes a b ≡ true → length a ≡ length b
+pub pointwise_same : (a b : List ℕ) → pointwise eqb a b ≡ same_bytes a b
 unfolding same_bytes
-same_lengths [] [] e = refl
-same_lengths [] (y ∷ ys) e = apart false e refl
-same_lengths (x ∷ xs) [] e = apart false e refl
-same_lengths (x ∷ xs) (y ∷ ys) e = ap suc (same_lengths xs ys (and_right (eqb x y) (same_bytes xs ys) e))
-
-by_length : (r : Bool) (m n : ℕ) → (m ≡ n → ⊥) → (r ≡ true → m ≡ n) → false ≡ r
-by_length true m n h k = absurd (h (k refl))
-by_length false m n h k = refl
-
-pub other_length : (a b : List ℕ) → (length a ≡ length b → ⊥) → false ≡ same_bytes a b
-other_length a b h = by_length (same_bytes a b) _ _ h (same_lengths a b)
-
--- the first i bytes are the same: the rest decides
-pub record Matching (a b : List ℕ) (i : ℕ) : Type 0 where
-  pub within : i ≤ length a
-  pub equal : length a ≡ length b
-  pub means : same_bytes a b ≡ same_bytes (drop i a) (drop i b)
-
-module _ (a b : List ℕ) where
-  pub at_first : length a ≡ length b → Matching a b 0
-  at_first e = record { within = omega arith; equal = e; means = refl }
-
-  module _ (i : ℕ) (h : Matching a b i) where
-    pub at_end_lem : length a ≤ i → true ≡ same_bytes a b
-    unfolding same_bytes
-    at_end_lem l =
-        let d : drop i a ≡ [] = drop_of_length-le a l in
-        let m : length b ≤ i = (let e = h.equal in omega arith) in
-        let g : drop i b ≡ [] = drop_of_length-le b m in
-        sym (h.means ∙ rw (d, g))
-
-    ahead : i < length a → same_bytes (drop i a) (drop i b) ≡ (eqb (get_or a i 0) (get_or b i 0) && same_bytes (drop (suc i) a) (drop (suc i) b))
-    unfolding same_bytes
-    ahead l = rw (drop-cons a i 0 l, drop-cons b i 0 (let e = h.equal in omega arith))
-
-    pub differs : i < length a → (get_or a i 0 ≡ get_or b i 0 → ⊥) → false ≡ same_bytes a b
-    differs l f = sym (h.means ∙ ahead l ∙ and_not _ _ (ne_eqb _ _ f))
-
-    pub agrees : i < length a → get_or a i 0 ≡ get_or b i 0 → Matching a b (i + 1)
-    agrees l f = record { within = omega arith; equal = h.equal; means = h.means ∙ ahead l ∙ rw (eq-eqb _ _ f, add-one) }
+pointwise_same [] [] = refl
+pointwise_same [] (y ∷ ys) = refl
+pointwise_same (x ∷ xs) [] = refl
+pointwise_same (x ∷ xs) (y ∷ ys) = rw (pointwise_same xs ys)

@@ -4,8 +4,11 @@ use mathlib.Core.List.{List, [], ◌∷◌, ◌++◌}
 use Prim.Native.Nat.{ℕ, suc, ◌+◌, ◌*◌, ◌≤◌, ◌<◌}
 use native.Mathlib.Omega.{arith}
 use native.Mathlib.Numerals.{add-one}
-use lib.ListN.{length, get_or, set, take, replicate, length-set, get_or-replicate}
+use lib.ListN.{length, get_or, set, take, length-set}
 use lib.Seq.{take-suc, take_all, length-take-le, length-sets, lt-length-set}
+use borrow.Rule.Slice.PartMut.{put_mid}
+use Rattle.std.proofs.lemmas.List.Edits.{sets-eq}
+use Rattle.std.proofs.lemmas.Slice.{put_mid-paste}
 use Rattle.model.specs.Values.{put_words}
 use Rattle.model.specs.Emission.{written}
 
@@ -42,9 +45,10 @@ module _ {d : List ℕ} {at : ℕ} {l t : List ℕ} {i : ℕ} (h : Writing d at 
   pub whole : length l ≤ i → t ≡ written d at l
   whole g = h.means ∙ rw (take_all i l g)
 
--- the same number n times
-pub again : (n i x : ℕ) → i < n → x ≡ get_or (replicate n x) i 0
-again n i x h = sym (get_or-replicate n i x 0 h)
+-- a part of the store overwritten: k is how many words it has, m is what it holds then
+pub overwritten : (d : List ℕ) (at k : ℕ) (l m : List ℕ) → at + length l ≤ length d → k ≡ length l → m ≡ l → put_mid at k d m ≡ written d at l
+unfolding written
+overwritten d at k l m h e f = let n : length l ≤ length l = omega arith in put_mid-paste at k d m l (length l) f (sym e) refl ∙ rw (take_all (length l) l n) (sym (sets-eq l d at h))
 
 pub length_words : (s : List ℕ) (i a b : ℕ) → length (put_words s i a b) ≡ length s
 unfolding put_words

@@ -1,13 +1,13 @@
 -- The stores that an entry is lent, over any rest; and the one fact of an entry.
-use Rattle.std.specs.Prelude.{◌≡◌, Bool, List, ℕ, length}
+use Rattle.std.specs.Prelude.{◌≡◌, Bool, List, ℕ, length, Result}
 use Rattle.model.specs.declared.Counts.{Counts}
-use Rattle.model.specs.declared.Emitted.{Emitted}
 use Rattle.model.specs.Stores.{Stores}
 use Rattle.model.specs.Orders.{program_ok}
 use Rattle.model.specs.Emission.{Res}
+use Rattle.model.specs.declared.Refusal.{Refusal}
 
 -- the answer and the stores are those of the definition
-pub record Is (want : Res) (r : Emitted) (s : Stores) : Type 0 where
+pub record Is (want : Res) (r : Result (Counts × ℕ) Refusal) (s : Stores) : Type 0 where
   pub means : record { answer = r; stores = s } ≡ want
 
 -- functions, main with its places, the others with theirs
@@ -65,9 +65,3 @@ structs_lent rest ss t = record {
   other = rest.other;
   other_places = rest.other_places;
 }
-
--- the good order of a whole program: whatever the code and place stores hold, which are of these lengths
-pub record WholeIs (c : Counts) (cs ss fs t : List ℕ) (main main_places other other_places : ℕ) (r : Bool) : Type 0 where
-  pub is : (s : Stores) → s.constants ≡ cs → s.structs ≡ ss → s.functions ≡ fs → s.text ≡ t
-      → length s.main ≡ main → length s.main_places ≡ main_places → length s.other ≡ other → length s.other_places ≡ other_places
-      → r ≡ program_ok c s

@@ -7,22 +7,13 @@ ghost use Rattle.model.specs.Orders.{name_in_order};
 ghost use Rattle.laws_names.specs.Sorted.{Edge, moved_up, struct_put};
 
 use crate::reads::{first, index, part, same_bytes, second};
+use std::mem::swap;
 
 // Whether one name stands before another: it is less at the first difference, or ends there.
 pub fn before(a: &[u8], b: &[u8]) -> bool
     ensures { result ≡ before a.now b.now }
 {
-    let mut i = 0;
-    while i < a.len() {
-        if b.len() <= i {
-            return false;
-        }
-        if a[i] != b[i] {
-            return a[i] < b[i];
-        }
-        i += 1;
-    }
-    a.len() < b.len()
+    a < b
 }
 
 // The word of the name that stands at i in the order of names.
@@ -33,17 +24,8 @@ pub fn in_order(structs: &[u64], i: usize) -> u64
     first(structs, number)
 }
 
-// One of two numbers.
-fn pick(which: bool, yes: usize, no: usize) -> usize
-    ensures { result ≡ (if which then yes else no) }
-{
-    if which {
-        return yes;
-    }
-    no
-}
-
-// The place of a name among n that stand in order, by halves: those below are before it.
+// The place of a name among n that stand in order, by halves: those below are before it. The library searches a slice of what it compares; here the order is
+// numbers in words that the host lends, and the names lie elsewhere (there is no heap to lay them side by side).
 pub fn spot(name: &[u8], n: usize, structs: &[u64], text: &[u8]) -> usize
     ensures { Edge n (name_in_order structs.now text.now) name.now result }
 {
@@ -51,9 +33,11 @@ pub fn spot(name: &[u8], n: usize, structs: &[u64], text: &[u8]) -> usize
     let mut high = n;
     while low < high {
         let mid = low + (high - low) / 2;
-        let up = before(part(text, in_order(structs, mid)), name);
-        low = pick(up, mid + 1, low);
-        high = pick(up, high, mid);
+        if before(part(text, in_order(structs, mid)), name) {
+            low = mid + 1;
+        } else {
+            high = mid;
+        }
     }
     low
 }
@@ -62,10 +46,7 @@ pub fn spot(name: &[u8], n: usize, structs: &[u64], text: &[u8]) -> usize
 pub fn stands(name: &[u8], at: usize, n: usize, structs: &[u64], text: &[u8]) -> bool
     ensures { result ≡ (ltb at n && same_bytes name.now (name_in_order structs.now text.now at)) }
 {
-    if at < n {
-        return same_bytes(name, part(text, in_order(structs, at)));
-    }
-    false
+    at < n && same_bytes(name, part(text, in_order(structs, at)))
 }
 
 // A number put at a place of the order of n numbers: those behind it move up by one.
@@ -74,12 +55,8 @@ fn move_up(structs: &mut [u64], at: usize, n: usize, x: u64)
     ensures { structs.new ≡ moved_up n at x structs.old }
 {
     let mut carry = x;
-    let mut k = at;
-    while k < n {
-        let old = structs[2 * k + 1];
-        structs[2 * k + 1] = carry;
-        carry = old;
-        k += 1;
+    for k in at..n {
+        swap(&mut structs[2 * k + 1], &mut carry);
     }
     structs[2 * n + 1] = carry;
 }
@@ -90,6 +67,5 @@ pub fn put_struct(structs: &mut [u64], at: usize, n: usize, word: u64)
     ensures { structs.new ≡ struct_put n at word structs.old }
 {
     structs[2 * n] = word;
-    let number = n as u64;
-    move_up(structs, at, n, number);
+    move_up(structs, at, n, n as u64);
 }

@@ -12,10 +12,7 @@ use model::{Counts, HALF, MOST_PLACES};
 pub fn lesser(a: usize, b: usize) -> usize
     ensures { result ≡ min a b }
 {
-    if a < b {
-        return a;
-    }
-    b
+    a.min(b)
 }
 
 // The places of a store of n words, w words to a place.
@@ -76,21 +73,11 @@ pub fn part(text: &[u8], w: u64) -> &[u8]
     &text[from..to]
 }
 
-// Whether the bytes are the same. Lengths are compared first.
+// Whether the bytes are the same.
 pub fn same_bytes(a: &[u8], b: &[u8]) -> bool
     ensures { result ≡ same_bytes a.now b.now }
 {
-    if a.len() != b.len() {
-        return false;
-    }
-    let mut i = 0;
-    while i < a.len() {
-        if a[i] != b[i] {
-            return false;
-        }
-        i += 1;
-    }
-    true
+    a == b
 }
 
 // The word at i.

@@ -8,11 +8,7 @@ pub fn put_bytes(s: &mut [u8], at: usize, bytes: &[u8])
     requires { at + length bytes.now ≤ length s.old }
     ensures { s.new ≡ written s.old at bytes.now }
 {
-    let mut i = 0;
-    while i < bytes.len() {
-        s[at + i] = bytes[i];
-        i += 1;
-    }
+    s[at..at + bytes.len()].copy_from_slice(bytes);
 }
 
 // One place of the source for each of n bytes.
@@ -20,11 +16,7 @@ pub fn put_places(s: &mut [u32], at: usize, n: usize, place: u32)
     requires { at + n ≤ length s.old }
     ensures { s.new ≡ written s.old at (replicate n place) }
 {
-    let mut i = 0;
-    while i < n {
-        s[at + i] = place;
-        i += 1;
-    }
+    s[at..at + n].fill(place);
 }
 
 // The bytes of code from place at on, and the place of the source for each.

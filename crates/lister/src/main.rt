@@ -1,31 +1,17 @@
 // Reads a rule image from standard input, and prints the listing of each of its functions.
 #![tactic(auto)]
 
-ghost use Rattle.streams.specs.Reads.{ReadAs};
-ghost use Rattle.streams.specs.Answers.{Answered, Shown};
+ghost use Rattle.streams.specs.Answers.{Shown};
 ghost use Rattle.lister.specs.Says.{Says};
 
+use report::list_image;
 use std::io;
-use streams::Input;
 
-// Prints the listing of an image that was read; of one that could not be read, nothing.
-fn answer(rt: &(impl Print + Eprint), input: Input, image: &[u8], out: &mut [u8])
-    requires { ReadAs input image.now }
-    ensures { Answered Says input image.now out.old out.new }
-{
-    let Input::Bytes(n) = input else {
-        return;
-    };
-    let len = report::list_image(&image[..n], out);
-    streams::write_output(rt, &out[..len]);
-}
-
-// Reads an image and prints its listing.
+// Reads an image and prints its listing; of one that could not be read, nothing.
 fn show(rt: &(impl io::Input + Print + Eprint), image: &mut [u8], out: &mut [u8])
     ensures { Shown Says image.new out.old out.new }
 {
-    let input = streams::read_input(rt, image);
-    answer(rt, input, image, out);
+    streams::show(rt, image, out, list_image);
 }
 
 // The same with a store whose length is told by its type: that of the array in main would be counted byte by byte.

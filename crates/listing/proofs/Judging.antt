@@ -3,15 +3,13 @@ use mathlib.Core.Path.{◌≡◌, refl, sym, ap, ◌∙◌}
 use mathlib.Core.List.{List, [], ◌++◌, append_assoc, append-nil}
 use Prim.Native.Nat.{ℕ, ◌+◌, ◌≤◌}
 use native.Mathlib.Omega.{arith}
-use lib.ListN.{length}
-use Rattle.model.specs.declared.Told.{Told}
-use Rattle.model.specs.declared.Told.TheVariants.{Number, Refused}
 use Rattle.model.specs.Listings.{Listed, text, unlisted, in_front, and_listed}
 use Rattle.model.specs.Emission.{written}
 use Rattle.listing.specs.Links.{Listing}
-use Rattle.layout.proofs.Writing.{length_written}
 use Rattle.printing.specs.Links.{Put}
 use Rattle.printing.proofs.Puts.{written_both, within, both, nothing}
+use Rattle.std.specs.Prelude.{Err, Ok, Result}
+use Rattle.model.specs.declared.Refusal.{Refusal}
 
 -- ---- the model's joints
 
@@ -32,35 +30,32 @@ front_and a (unlisted l n) y = refl
 
 -- ---- an answer taken apart, and put together
 
-pub same_room : {k : ℕ} {w : Listed} {s : List ℕ} {i : ℕ} {s' : List ℕ} {r : Told} → Listing k w s i s' r → length s' ≡ length s
-same_room {s = s} {i} h = ap length h.stored ∙ length_written s i _
-
 -- the whole is a text, and it was put
 pub record Wrote (k : ℕ) (w : Listed) (s : List ℕ) (i : ℕ) (s' : List ℕ) (r : ℕ) : Type 0 where
   pub l : List ℕ
   pub is_text : w ≡ text l
   pub put : Put k l s i s' r
 
-pub wrote : {k : ℕ} (w : Listed) {s : List ℕ} {i : ℕ} {s' : List ℕ} {r : ℕ} → Listing k w s i s' (Number r) → Wrote k w s i s' r
+pub wrote : {k : ℕ} (w : Listed) {s : List ℕ} {i : ℕ} {s' : List ℕ} {r : ℕ} → Listing k w s i s' (Ok r) → Wrote k w s i s' r
 wrote (text l) h = record { l = l; is_text = refl; put = record { stored = h.stored; next = let e = h.means in cc; near = h.near } }
 wrote (unlisted l n) h = absurd (let e = h.means in let z : ◌≡◌ {A = ℕ} 0 1 = cc in let y : ⊥ = omega arith in y)
 
 -- the whole is refused, behind a text that was put
-pub record NotWrote (w : Listed) (s : List ℕ) (i : ℕ) (s' : List ℕ) (n : ℕ) : Type 0 where
+pub record NotWrote (w : Listed) (s : List ℕ) (i : ℕ) (s' : List ℕ) (e : Refusal) : Type 0 where
   pub l : List ℕ
-  pub is_refused : w ≡ unlisted l n
+  pub is_refused : w ≡ unlisted l e
   pub stored : s' ≡ written s i l
 
-pub not_wrote : {k : ℕ} (w : Listed) {s : List ℕ} {i : ℕ} {s' : List ℕ} {n : ℕ} → Listing k w s i s' (Refused n) → NotWrote w s i s' n
+pub not_wrote : {k : ℕ} (w : Listed) {s : List ℕ} {i : ℕ} {s' : List ℕ} {e : Refusal} → Listing k w s i s' (Err e) → NotWrote w s i s' e
 not_wrote (text l) h = absurd (let e = h.means in let z : ◌≡◌ {A = ℕ} 0 1 = cc in let y : ⊥ = omega arith in y)
 not_wrote (unlisted l n) h = record { l = l; is_refused = let e = h.means in cc; stored = h.stored }
 
-pub listed : {k : ℕ} {w : Listed} {l s : List ℕ} {i : ℕ} {s' : List ℕ} {r : ℕ} → w ≡ text l → Put k l s i s' r → Listing k w s i s' (Number r)
-listed e p = record { means = rw e (ap Number p.next); stored = rw e p.stored; near = p.near }
+pub listed : {k : ℕ} {w : Listed} {l s : List ℕ} {i : ℕ} {s' : List ℕ} {r : ℕ} → w ≡ text l → Put k l s i s' r → Listing k w s i s' (Ok r)
+listed e p = record { means = rw e (ap Ok p.next); stored = rw e p.stored; near = p.near }
 
 -- a text that was put, and a refusal behind it
-not_listed : (l : List ℕ) {k m : ℕ} {w : Listed} {a : List ℕ} {n : ℕ} {s : List ℕ} {i : ℕ} {s' : List ℕ} {j : ℕ} {t : List ℕ}
-    → w ≡ unlisted (a ++ l) n → Put k a s i s' j → t ≡ written s' j l → Listing m w s i t (Refused n)
+not_listed : (l : List ℕ) {k m : ℕ} {w : Listed} {a : List ℕ} {n : Refusal} {s : List ℕ} {i : ℕ} {s' : List ℕ} {j : ℕ} {t : List ℕ}
+    → w ≡ unlisted (a ++ l) n → Put k a s i s' j → t ≡ written s' j l → Listing m w s i t (Err n)
 not_listed l {a = a} {s = s} {i} e p q = record {
   means = rw e;
   stored = rw (e, q, p.stored, p.next) (written_both s i a l);
@@ -68,10 +63,10 @@ not_listed l {a = a} {s = s} {i} e p q = record {
 }
 
 -- a text, and a listing behind it
-pub then : {k m : ℕ} {a : List ℕ} {w : Listed} {s : List ℕ} {i : ℕ} {s' : List ℕ} {j : ℕ} {t : List ℕ} (r : Told) → Put k a s i s' j → Listing m w s' j t r → Listing (k + m) (in_front a w) s i t r
+pub then : {k m : ℕ} {a : List ℕ} {w : Listed} {s : List ℕ} {i : ℕ} {s' : List ℕ} {j : ℕ} {t : List ℕ} (r : Result ℕ Refusal) → Put k a s i s' j → Listing m w s' j t r → Listing (k + m) (in_front a w) s i t r
 unfolding in_front
-then (Number r) p h = let q = wrote _ h in listed (ap (in_front _) q.is_text) (both p q.put)
-then (Refused n) p h = let q = not_wrote _ h in not_listed q.l (ap (in_front _) q.is_refused) p q.stored
+then (Ok r) p h = let q = wrote _ h in listed (ap (in_front _) q.is_text) (both p q.put)
+then (Err n) p h = let q = not_wrote _ h in not_listed q.l (ap (in_front _) q.is_refused) p q.stored
 
 -- ---- a loop
 
@@ -93,10 +88,10 @@ module _ {k : ℕ} {w x : Listed} {s : List ℕ} {at : ℕ} {s' : List ℕ} {r :
   }
 
   -- what is left is refused, behind a text that was put
-  pub stops : {l t : List ℕ} {n : ℕ} → x ≡ unlisted l n → t ≡ written s' r l → {m : ℕ} → Listing m w s at t (Refused n)
+  pub stops : {l t : List ℕ} {n : Refusal} → x ≡ unlisted l n → t ≡ written s' r l → {m : ℕ} → Listing m w s at t (Err n)
   unfolding in_front
   stops {l} e q = not_listed l (h.splits ∙ ap (in_front h.done) e) h.put q
 
-  pub completes : x ≡ text [] → (n : ℕ) → k ≤ n → Listing n w s at s' (Number r)
+  pub completes : x ≡ text [] → (n : ℕ) → k ≤ n → Listing n w s at s' (Ok r)
   unfolding in_front
   completes e n g = listed (h.splits ∙ ap (in_front h.done) e ∙ ap text (append-nil h.done)) (within h.put n g)

@@ -1,19 +1,15 @@
 -- An opcode's name with spaces up to 13, letter by letter.
 use mathlib.Core.Path.{◌≡◌}
-use mathlib.Core.Bool.{true, false, ◌||◌}
 use mathlib.Core.List.{List}
-use Prim.Native.Nat.{ℕ, ◌+◌, ◌-◌, ◌≤◌, ◌<◌}
+use Prim.Native.Nat.{ℕ, ◌+◌, ◌-◌, ◌≤◌, ◌<◌, max}
 use native.Mathlib.Omega.{arith}
-use lib.Dec.{ltb, leb, leb→le}
+use lib.Dec.{leb, leb→le}
 use lib.ListN.{length, get_or, length-append, length-replicate}
-use borrow.Author.Tests.{lt-ltb, le-ltb}
 use Rattle.model.specs.Basics.{ascii}
 use Rattle.model.specs.Opcodes.{opcodes, opcode_at}
 use Rattle.model.specs.Listings.{padded_to}
 use Rattle.opcode.proofs.Arms.{within}
 use Rattle.opcode.proofs.Names.{row_at}
-use Rattle.layout.proofs.Bools.{apart}
-use Rattle.printing.proofs.Digits.{by_lt}
 
 padded_length : (w : ℕ) (t : List ℕ) → length (padded_to w t) ≡ length t + (w - length t)
 unfolding padded_to
@@ -24,17 +20,8 @@ pub letter : (w : ℕ) (t : List ℕ) (d i : ℕ) → i < length (padded_to w t)
 unfolding padded_to
 letter w t d i h = let e = padded_length w t in row_at t (w - length t) d i (omega arith)
 
-module _ (t : List ℕ) (n : ℕ) (e : n ≡ length t) (i : ℕ) where
-  pub goes_on_lem : (ltb i 13 || ltb i n) ≡ true → i < length (padded_to 13 t)
-  goes_on_lem h =
-      let l = padded_length 13 t in
-      by_lt i 13 (λ g. omega arith) (λ g. by_lt i n (λ f. omega arith) (λ f. apart _ h (rw (le-ltb i 13 g, le-ltb i n f))))
-
-  pub ends : (ltb i 13 || ltb i n) ≡ false → length (padded_to 13 t) ≤ i
-  ends h =
-      let l = padded_length 13 t in
-      by_lt i 13 (λ g. apart _ (rw (lt-ltb i 13 g)) h)
-      (λ g. by_lt i n (λ f. apart _ (rw (le-ltb i 13 g, lt-ltb i n f)) h) (λ f. omega arith))
+pub padded_13 : (t : List ℕ) (n : ℕ) → n ≡ length t → {end : ℕ} → end ≡ max n 13 → end ≡ length (padded_to 13 t)
+padded_13 t n e f = let l = padded_length 13 t in omega arith
 
 -- no name is longer than 19
 pub short : (b : ℕ) → b < 256 → length (padded_to 13 (opcode_at b).name) ≤ 19

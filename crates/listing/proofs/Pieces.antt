@@ -13,9 +13,9 @@ use Rattle.printing.specs.Links.{Put}
 use Rattle.printing.proofs.Puts.{is, within, both, nothing}
 use Rattle.printing.proofs.Digits.{like, plain, four}
 
-pub word_is : (s : List ℕ) (i : ℕ) → get_or s i 0 + 256 * get_or s (i + 1) 0 ≡ word_at s i
+pub word_is : (s : List ℕ) (i : ℕ) {a b : ℕ} → a ≡ get_or s i 0 → b ≡ get_or s (i + 1) 0 → a + b * 256 ≡ word_at s i
 unfolding word_at
-word_is s i = rw add-one
+word_is s i e f = rw (e, f, add-one) (omega arith)
 
 -- ---- the operands, the first of them the word w
 

@@ -8,7 +8,6 @@ use lib.ListN.{length}
 use borrow.Author.Tests.{lt-ltb, le-ltb, le-leb, lt-leb}
 use Rattle.model.specs.declared.Decoded.{Decoded}
 use Rattle.model.specs.declared.Decoded.TheVariants.{Carried, NotCarried, Unknown}
-use Rattle.model.specs.declared.Told.TheVariants.{Number, Refused}
 use Rattle.model.specs.Opcodes.{operands}
 use Rattle.model.specs.Programs.{behind, opcode_in, next_in}
 use Rattle.model.specs.Listings.{Listed, text, known_then, opcode_then, line_then, lines_for}
@@ -16,6 +15,8 @@ use Rattle.model.specs.Emission.{written}
 use Rattle.listing.specs.Links.{Listing}
 use Rattle.printing.specs.Links.{Put}
 use Rattle.listing.proofs.Judging.{Sofar, at_start, onward, stops, completes}
+use Rattle.std.specs.Prelude.{Err, Ok}
+use Rattle.model.specs.declared.Refusal.TheVariants as why
 
 pub behind_is : (i n : ℕ) → behind i n ≡ i + 1 + 2 * n
 unfolding behind
@@ -65,7 +66,7 @@ module _ (line : ℕ → List ℕ) (code : List ℕ) (i : ℕ) where
   known_then_lem k Unknown h = absurd (h refl)
 
 module _ {line : ℕ → List ℕ} {w : ℕ} {code s : List ℕ} {at : ℕ} {s' : List ℕ} {i r : ℕ} (h : Turn line w code s at s' i r) where
-  pub last_turn : length code ≤ i → Listing (w * length code) (lines_for line (length code) code 0) s at s' (Number r)
+  pub last_turn : length code ≤ i → Listing (w * length code) (lines_for line (length code) code 0) s at s' (Ok r)
   last_turn g =
       let z : i ≡ length code = (let y = h.inside in omega arith) in
       let m : w * i ≤ w * length code = rw z (omega arith) in
@@ -78,7 +79,7 @@ module _ {line : ℕ → List ℕ} {w : ℕ} {code s : List ℕ} {at : ℕ} {s' 
     some_left : h.left ≡ suc (h.left - 1)
     some_left = let z = h.enough in omega arith
 
-    pub unknown : d ≡ Unknown → Listing (w * length code) (lines_for line (length code) code 0) s at s' (Refused 1)
+    pub unknown : d ≡ Unknown → Listing (w * length code) (lines_for line (length code) code 0) s at s' (Err why.UnknownOpcode)
     unfolding opcode_then written
     unknown f = stops h.so_far {l = []} (one_fewer some_left ∙ rw f) refl
 
@@ -86,7 +87,7 @@ module _ {line : ℕ → List ℕ} {w : ℕ} {code s : List ℕ} {at : ℕ} {s' 
       known : lines_for line h.left code i ≡ known_then (lines_for line (h.left - 1) code) line code i
       known = one_fewer some_left ∙ known_then_lem line code i (lines_for line (h.left - 1) code) d k
 
-      pub cut_short : (length code - i - 1) / 2 < n → Listing (w * length code) (lines_for line (length code) code 0) s at s' (Refused 3)
+      pub cut_short : (length code - i - 1) / 2 < n → Listing (w * length code) (lines_for line (length code) code 0) s at s' (Err why.CodeEnds)
       unfolding known_then written
       cut_short f =
           let b = behind_is i n in

@@ -12,7 +12,7 @@ ghost use Rattle.printing.specs.Links.{Put};
 
 use crate::lines::write_lines;
 use layout::reads::{first, part, room, second};
-use model::{Counts, Told};
+use model::{Counts, Refusal};
 use printing::{put_text, write_decimal};
 use program::order::{counts_ok, functions_ok, inside_codes, main_ok, text_ok};
 
@@ -29,7 +29,13 @@ pub fn write_header(i: usize, name: &[u8], out: &mut [u8], at: usize) -> usize
 }
 
 // Function i: its header and its lines.
-fn write_function(i: usize, name: &[u8], code: &[u8], out: &mut [u8], at: usize) -> Told
+fn write_function(
+    i: usize,
+    name: &[u8],
+    code: &[u8],
+    out: &mut [u8],
+    at: usize,
+) -> Result<usize, Refusal>
     requires { at + (32 + length name.now + 64 * length code.now) < 2 ^ 64 }
     ensures { Listing (32 + length name.now + 64 * length code.now) (in_front (header_line i name.now) (code_lines code.now)) out.old at out.new result }
 {
@@ -56,24 +62,17 @@ fn write_all<'a>(
     main: &'a [u8],
     other: &'a [u8],
     out: &mut [u8],
-) -> Told
+) -> Result<usize, Refusal>
     requires { c.functions ≤ 65536 }
     ensures { (rest : Stores) → Listing (65536 * 2 ^ 40) (listing_of (program_in c (lent rest functions.now text.now main.now other.now))) out.old 0 out.new result }
 {
-    let n = c.functions;
     let mut next = 0;
-    let mut i = 0;
-    while i < n {
+    for i in 0..c.functions {
         let name = part(text, first(functions, i));
         let code = code_of(functions, main, other, i);
-        let told = write_function(i, name, code, out, next);
-        let Told::Number(behind) = told else {
-            return told;
-        };
-        next = behind;
-        i += 1;
+        next = write_function(i, name, code, out, next)?;
     }
-    Told::Number(next)
+    Ok(next)
 }
 
 // Good order of what the listing is lent.
@@ -96,20 +95,16 @@ pub fn disassemble<'a>(
     main: &'a [u8],
     other: &'a [u8],
     out: &mut [u8],
-) -> Told
+) -> Result<usize, Refusal>
     ensures { (rest : Stores) → record { answer = result; out = out.new } ≡ list_of c (lent rest functions.now text.now main.now other.now) out.old }
 {
     let ok = list_order(c, functions, text, main, other);
     if !ok {
-        return Told::Refused(19);
+        return Err(Refusal::NotInOrder);
     }
-    let none = 0;
-    let measured = write_all(c, functions, text, main, other, &mut out[..none]);
-    let Told::Number(n) = measured else {
-        return measured;
-    };
+    let n = write_all(c, functions, text, main, other, &mut out[..0])?;
     if room(out.len(), 1) < n {
-        return Told::Refused(17);
+        return Err(Refusal::ResultTooShort);
     }
     write_all(c, functions, text, main, other, out)
 }

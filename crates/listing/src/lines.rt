@@ -6,7 +6,7 @@ ghost use Rattle.model.specs.Listings.{padded_to, operands_from, line_of, code_l
 ghost use Rattle.listing.specs.Links.{Listing};
 ghost use Rattle.printing.specs.Links.{Put};
 
-use model::{Decoded, Told};
+use model::{Decoded, Refusal};
 use opcode::{decode, name_byte, name_len, operands};
 use printing::{put_byte, put_text, write_decimal};
 
@@ -15,12 +15,9 @@ fn write_name(b: u8, out: &mut [u8], at: usize) -> usize
     requires { at + 19 < 2 ^ 64 }
     ensures { Put 19 (padded_to 13 (opcode_at b).name) out.old at out.new result }
 {
-    let len = name_len(b);
-    let mut i = 0;
     let mut next = at;
-    while (i < 13) | (i < len) {
+    for i in 0..name_len(b).max(13) {
         next = put_byte(name_byte(b, i), out, next);
-        i += 1;
     }
     next
 }
@@ -30,7 +27,7 @@ fn operand(code: &[u8], i: usize) -> usize
     requires { i + 2 ≤ length code.now }
     ensures { result ≡ word_at code.now i }
 {
-    code[i] as usize + 256 * (code[i + 1] as usize)
+    usize::from(u16::from_le_bytes([code[i], code[i + 1]]))
 }
 
 // The n operands from position i on, with a space between.
@@ -65,24 +62,25 @@ pub fn write_line(code: &[u8], i: usize, out: &mut [u8], at: usize) -> usize
 }
 
 // All lines of a code; an unknown opcode is refused 1, and one whose operands are cut short 3, as met first, with the lines before it put.
-pub fn write_lines(code: &[u8], out: &mut [u8], at: usize) -> Told
+pub fn write_lines(code: &[u8], out: &mut [u8], at: usize) -> Result<usize, Refusal>
     requires { at + 64 * length code.now < 2 ^ 64 }
     ensures { Listing (64 * length code.now) (code_lines code.now) out.old at out.new result }
 {
     let mut i = 0;
     let mut next = at;
+    // Each step is as long as its instruction, so this is no `for`.
     while i < code.len() {
         let b = code[i];
         if let Decoded::Unknown = decode(b) {
-            return Told::Refused(1);
+            return Err(Refusal::UnknownOpcode);
         }
         let n = operands(b);
         let left = (code.len() - i - 1) / 2;
         if left < n {
-            return Told::Refused(3);
+            return Err(Refusal::CodeEnds);
         }
         next = write_line(code, i, out, next);
         i = i + 1 + 2 * n;
     }
-    Told::Number(next)
+    Ok(next)
 }

@@ -3,6 +3,7 @@
 --     current-ready                 the current frame can be read
 --     run-begun                     the entry's contract
 -- Assumes nothing.
+use Rattle.std.specs.Prelude.{Ok}
 use mathlib.Core.Path.{◌≡◌, refl, sym, ap, subst, ◌∙◌}
 use mathlib.Core.Bool.{Bool, true, false}
 use mathlib.Core.List.{List, []}
@@ -92,13 +93,13 @@ module _ (m : Vm) (s : Stores) (l : Lent) (g : Granted begins m s l) where
       let known : here.function < length (functions_from m.program.functions 0 s) = rw here_is at inner in
       code_size m.program s p here.function (omega (arith, length_functions s m.program.functions 0))
 
-  says : answer_in left (begun_with m here s.functions) ≡ ran (unchanged m) (comes_to m s l begins)
+  says : answer_in left (Ok (begun_with m here s.functions)) ≡ ran (unchanged m) (comes_to m s l begins)
   says =
       unfold run_lent in
       a_beginning_answers_by_the_rules m l left world begun_there s.functions here (sym here_is) its_code (same_vals m.stack copied l.stack same_words)
 
   -- what it leaves is in good order, by the rules
-  sane : CodeBytes s → SaneAnswer world (answer_in left (begun_with m here s.functions))
+  sane : CodeBytes s → SaneAnswer world (answer_in left (Ok (begun_with m here s.functions)))
   sane bytes = subst (SaneAnswer world) (sym says) (part_sane m s l begins g bytes)
 
   exact : Exact (vm_with m m.stack m.frames m.cells m.last) left
@@ -128,7 +129,7 @@ module _ (m : Vm) (s : Stores) (l : Lent) (g : Granted begins m s l) where
         copy = (λ i z. rw (same_kind m.stack copied l.stack same_words i z, same_payload m.stack copied l.stack same_words i z) (x.stack i z));
       }
 
-  left_by_lem : CodeBytes s → (b : Bool) → leb (size (code_word s.functions here.function)) here.position ≡ b → Left s l (begun_with m here s.functions) left
+  left_by_lem : CodeBytes s → (b : Bool) → leb (size (code_word s.functions here.function)) here.position ≡ b → Left s l (Ok (begun_with m here s.functions)) left
   unfolding begun_with answer_in
   left_by_lem bytes true e = rw e
       (leaves_idle s g.order (unfold run_lent in record { program = refl; strict = refl; stack = refl; cells = refl; frames = unentered_room m.frames l.frames }) exact refl (rw e at (sane bytes)))
@@ -136,7 +137,7 @@ module _ (m : Vm) (s : Stores) (l : Lent) (g : Granted begins m s l) where
       (leaves_under s g.order (unfold vm_begun run_lent in record { program = refl; strict = refl; stack = refl; cells = refl; frames = unentered_room m.frames l.frames }) begun_exact (unfold vm_begun in refl)
       paused_exact (rw e at (sane bytes)))
 
-  nothing_told : (b : Bool) → leb (size (code_word s.functions here.function)) here.position ≡ b → tells (answer_in left (begun_with m here s.functions)) ≡ []
+  nothing_told : (b : Bool) → leb (size (code_word s.functions here.function)) here.position ≡ b → tells (answer_in left (Ok (begun_with m here s.functions))) ≡ []
   unfolding begun_with answer_in trace_of_part trace_of_reply
   nothing_told true e = rw e
   nothing_told false e = rw e
@@ -145,9 +146,9 @@ module _ (m : Vm) (s : Stores) (l : Lent) (g : Granted begins m s l) where
   unfolding entry_words
   no_trace = ap entry_words (sym (ap tells says) ∙ nothing_told _ refl)
 
-  pub run_begun : CodeBytes s → RunPost begins m s l (begun_with m here s.functions) left
+  pub run_begun : CodeBytes s → RunPost begins m s l (Ok (begun_with m here s.functions)) left
   run_begun bytes =
-      posted m s l begins g refl (begun_with m here s.functions) left says (unfold run_lent in refl)
+      posted m s l begins g refl (Ok (begun_with m here s.functions)) left says (unfold run_lent in refl)
       (unfold run_lent written in rw no_trace)
       (unfold run_lent in record { stack = refl; cells = refl; frames = unentered_room m.frames l.frames })
       (left_by_lem bytes _ refl)

@@ -1,12 +1,12 @@
 -- Whether a call of a run is granted or refused, by the number that its refusal has; and the bounds that follow.
---     refused-with                      a call whose refusal is not 0 is refused with it
---     granted-by                        and it is granted where that is 0
+--     refused_with                      a call is refused with its refusal
+--     granted_by                        and it is granted where there is none
 --     functions-there                   the functions' words are there
 --     frames-there                      so are the frames
 --     lengths-of, saved-of              the stack's words, the cells and the current frame are there; so are the copy's
 --     copy-long, trace-long             the copy and the backtrace store are long enough
 -- Assumes nothing.
-use Rattle.std.specs.Prelude.{if◌then◌else◌}
+use Rattle.std.specs.Prelude.{if◌then◌else◌, Err}
 use mathlib.Core.Path.{◌≡◌, refl, sym, ap, ◌∙◌}
 use mathlib.Core.Bool.{Bool, true, false, ◌&&◌}
 use mathlib.Core.List.{List}
@@ -18,7 +18,6 @@ use lib.ListN.{length, take}
 use Rattle.model.specs.declared.Counts.{Counts}
 use Rattle.model.specs.declared.Vm.{Vm}
 use Rattle.model.specs.declared.Frame.{Frame}
-use Rattle.model.specs.declared.RunResult.TheVariants.{Refused}
 use Rattle.model.specs.Basics.{every_from}
 use Rattle.model.specs.Values.{places, most_places, kind_at, payload_at, value_at, exact_value}
 use Rattle.model.specs.Heap.{Cell, heap_of, heap_ok, exact_cells, placed_below}
@@ -32,6 +31,9 @@ use Rattle.laws_runs.proofs.Tests.{every_of}
 use Rattle.laws_runs.proofs.Programs.{Parts}
 use Rattle.laws_runs.proofs.Frames.{some_frame}
 use Rattle.laws_runs.proofs.Ordered.{order_of_lem, under_of_lem}
+use Rattle.model.specs.declared.Refusal.{Refusal}
+use Rattle.model.specs.Answers.{refusal_number}
+use Rattle.run_ends.proofs.Refusing.{is_refused}
 use Rattle.machine.specs.Links.{Granted}
 
 -- ---- refusals change nothing
@@ -43,7 +45,7 @@ module _ (m : Vm) (s : Stores) (l : Lent) where
   copy_kept (continues u) e = refl
   copy_kept abandons e = refl
 
-  refuses : (c : RunCall) {n : ℕ} → run_answer c m s l ≡ refused n → RunPost c m s l (Refused n) l
+  refuses : (c : RunCall) {e : Refusal} → run_answer c m s l ≡ refused (refusal_number e) → RunPost c m s l (Err e) l
   unfolding answer_in trace_after
   refuses c e = record {
     answer = sym e;
@@ -58,8 +60,8 @@ module _ (m : Vm) (s : Stores) (l : Lent) where
   some_refusal (ran k x) e some = absurd (some e)
   some_refusal (refused i) e some = ap refused (sym e)
 
-  pub refused_with : (c : RunCall) {n : ℕ} → n ≡ refusal_of (run_answer c m s l) → (n ≡ 0 → ⊥) → RunPost c m s l (Refused n) l
-  refused_with c e some = refuses c (some_refusal (run_answer c m s l) e some)
+  pub refused_with : (c : RunCall) {e : Refusal} → refusal_number e ≡ refusal_of (run_answer c m s l) → RunPost c m s l (Err e) l
+  refused_with c {e} h = refuses c (some_refusal (run_answer c m s l) h (is_refused e))
 
 -- ---- the tests that a call has passed which is not refused
 
@@ -91,14 +93,14 @@ module _ (k : Unchanged) (x : Part) where
   abandons_by false on short e = absurd (let z : ⊥ = omega (arith, e) in z)
 
 module _ (m : Vm) (s : Stores) (l : Lent) where
-  pub granted_by : (c : RunCall) {n : ℕ} → n ≡ refusal_of (run_answer c m s l) → n ≡ 0 → Granted c m s l
+  pub granted_by : (c : RunCall) → 0 ≡ refusal_of (run_answer c m s l) → Granted c m s l
   unfolding run_answer begin_answer continue_answer abandon_answer
-  granted_by begins e z = let t = begins_by (unchanged m) _ (run_order m s l) m.run.on (copy_short l) (sym e ∙ z) in record { order = t.0; fits = t.1 }
-  granted_by (continues u) e z =
-      let t = continues_by (unchanged m) _ (run_order m s l) m.run.on (trace_short l) (ltb 0xFFFF_FFFF_FFFF_FFFF (m.run.given + u)) (sym e ∙ z) in
+  granted_by begins e = let t = begins_by (unchanged m) _ (run_order m s l) m.run.on (copy_short l) (sym e) in record { order = t.0; fits = t.1 }
+  granted_by (continues u) e =
+      let t = continues_by (unchanged m) _ (run_order m s l) m.run.on (trace_short l) (ltb 0xFFFF_FFFF_FFFF_FFFF (m.run.given + u)) (sym e) in
       let few : m.run.given + u ≤ 0xFFFF_FFFF_FFFF_FFFF = ltb-false _ _ t.1.1.1 in
       record { order = t.0; fits = (t.1.0, (t.1.1.0, omega arith)) }
-  granted_by abandons e z = let t = abandons_by (unchanged m) _ (run_order m s l) m.run.on (trace_short l) (sym e ∙ z) in record { order = t.0; fits = t.1 }
+  granted_by abandons e = let t = abandons_by (unchanged m) _ (run_order m s l) m.run.on (trace_short l) (sym e) in record { order = t.0; fits = t.1 }
 
 -- ---- bounds
 

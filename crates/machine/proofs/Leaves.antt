@@ -5,7 +5,7 @@
 --     leaves-idle                a machine that no run is under way in is left in good order
 --     leaves-under               so is one with a run under way
 -- Assumes nothing.
-use Rattle.std.specs.Prelude.{if◌then◌else◌}
+use Rattle.std.specs.Prelude.{if◌then◌else◌, Result}
 use mathlib.Core.Path.{◌≡◌, refl}
 use mathlib.Core.Bool.{Bool, true, false}
 use mathlib.Core.List.{List}
@@ -14,7 +14,6 @@ use native.Mathlib.Omega.{arith}
 use borrow.Author.Tests.{le-ltb}
 use lib.ListN.{take}
 use Rattle.model.specs.declared.Vm.{Vm}
-use Rattle.model.specs.declared.RunResult.{RunResult}
 use Rattle.model.specs.Basics.{written}
 use Rattle.model.specs.Runs.{Part, ends, begin_of, continue_of, abandon_of}
 use Rattle.model.specs.Stores.{Stores}
@@ -28,6 +27,8 @@ use Rattle.laws_runs.proofs.Runs.{begun_sane, continued_sane, abandoned_sane}
 use Rattle.laws_runs.proofs.Ordered.{order_of_lem, order_world, order_sane, order_under, same_world, sane_order, idle_to}
 use Rattle.run_ends.proofs.Leaving.{PausedExact, a_paused_run_is_in_order}
 use Rattle.machine.specs.Links.{Granted}
+use Rattle.model.specs.declared.Halt.{Halt}
+use Rattle.model.specs.declared.Refusal.{Refusal}
 
 -- ---- the part that a granted call is
 
@@ -75,7 +76,7 @@ module _ (m : Vm) (s : Stores) (l : Lent) where
   copy_is (continues u) g = refl
   copy_is abandons g = refl
 
-  pub posted : (c : RunCall) → Granted c m s l → {x : Part} → comes_to m s l c ≡ x → (r : RunResult) (l' : Lent) → mc.answer_in l' r ≡ ran (unchanged m) x
+  pub posted : (c : RunCall) → Granted c m s l → {x : Part} → comes_to m s l c ≡ x → (r : Result Halt Refusal) (l' : Lent) → mc.answer_in l' r ≡ ran (unchanged m) x
       → l'.copy ≡ copy_left m l c → l'.backtrace ≡ written l.backtrace 0 (entry_words (trace_of_part x)) → SameRooms l l' → Left s l r l' → RunPost c m s l r l'
   unfolding trace_after
   posted c g q r l' a e b x z = record {

@@ -6,7 +6,7 @@
 --     stops                                         and what is at hand where one has
 -- Assumes nothing.
 use mathlib.Core.Path.{◌≡◌, refl, sym, subst, ◌∙◌}
-use mathlib.Core.Bool.{true, false, ◌||◌, true≢false}
+use mathlib.Core.Bool.{true, false}
 use mathlib.Core.List.{List, []}
 use Prim.Native.Nat.{ℕ, suc, ◌+◌, ◌-◌, ◌<◌, ◌^◌}
 use native.Mathlib.Omega.{arith}
@@ -14,11 +14,8 @@ use lib.Dec.{eqb}
 use lib.ListN.{length, get_or, set, length-set}
 use lib.Seq.{get_or-set_same}
 use Rattle.model.specs.declared.Vm.{Vm}
-use Rattle.model.specs.declared.Last.{Last}
-use Rattle.model.specs.declared.Last.TheVariants.{Nothing, Is}
 use Rattle.model.specs.declared.Value.{Value}
 use Rattle.model.specs.declared.Fault.{Fault}
-use Rattle.model.specs.declared.Fault.TheVariants as f
 use Rattle.model.specs.declared.Frame.{Frame}
 use Rattle.model.specs.declared.Tally.{Tally}
 use Rattle.model.specs.Basics.{written}
@@ -39,7 +36,8 @@ use Rattle.run_arms.specs.Links.{frame_in}
 use Rattle.run_arms.proofs.Keeping.{exact_at_lem}
 use Rattle.run_steps.specs.Links.{answer_in, progress_in}
 use Rattle.run_loop.specs.declared.Course.{Course}
-use Rattle.run_loop.specs.Links.{stands, Ends, over, pause, stop, TurnsPost}
+use Rattle.run_loop.specs.declared.Turn.TheVariants as t
+use Rattle.run_loop.specs.Links.{stands_paused, stands, Ends, over, pause, stop, TurnsPost}
 use Rattle.value.specs.Links.{last_in}
 use Rattle.run_ends.specs.Links.{Answerable, vm_ended, result_by, tally_of, ended_with, vm_paused, paused_with, settled_with}
 use Rattle.run_ends.proofs.Ruled.{an_end_leaves_the_machine_as_it_stands, an_end_answers_by_the_rules, a_paused_run_is_under_way, a_pause_answers_by_the_rules}
@@ -50,6 +48,7 @@ use Rattle.machine.proofs.Granted.{Saved, saved_of, trace_long}
 use Rattle.machine.proofs.Begins.{Begins, begins_end}
 use Rattle.machine.proofs.Leaves.{comes_to, posted, part_sane, leaves_idle, leaves_under}
 use Rattle.machine.proofs.Stops.{Stops}
+use Rattle.std.specs.Prelude.{None, Option, Some, Ok}
 
 pub record Came (m : Vm) (s : Stores) (l : Lent) (u : ℕ) (k : Fixed) (g : Going) (c : Course) (stack cells : List ℕ) (frames : List Frame) : Type 0 where
   pub begins : Begins m s l u k g
@@ -60,34 +59,16 @@ pub record Came (m : Vm) (s : Stores) (l : Lent) (u : ℕ) (k : Fixed) (g : Goin
 
 -- ---- answers
 
-result_left : (s : Stores) (l l' : Lent) (a : Last) (m : Vm) (n : Tally) → Leaves false m s l' → Left s l (result_by a m n) l'
+result_left : (s : Stores) (l l' : Lent) (a : Option Value) (m : Vm) (n : Tally) → Leaves false m s l' → Left s l (Ok (result_by a m n)) l'
 unfolding result_by
-result_left s l l' Nothing m n e = e
-result_left s l l' (Is x) m n e = e
+result_left s l l' None m n e = e
+result_left s l l' (Some x) m n e = e
 
 -- a run that has ended writes no backtrace
-no_trace : (a : Last) (n : Tally) → entry_words (trace_of_reply (answered a n)) ≡ []
+no_trace : (a : Option Value) (n : Tally) → entry_words (trace_of_reply (answered a n)) ≡ []
 unfolding entry_words trace_of_reply answered
-no_trace Nothing n = refl
-no_trace (Is x) n = refl
-
--- the number of a fault is neither 0 nor 13
-some_fault : (x : Fault) → (eqb (fault_number x) 0 || eqb (fault_number x) 13) ≡ false
-unfolding fault_number
-some_fault f.UnknownOpcode = refl
-some_fault f.NotCarried = refl
-some_fault f.CodeEnds = refl
-some_fault f.TooFewValues = refl
-some_fault (f.WrongKind v) = refl
-some_fault f.OutOfRange = refl
-some_fault f.NoLastResult = refl
-some_fault f.ZeroDivisor = refl
-some_fault f.NotFinite = refl
-some_fault f.StackFull = refl
-some_fault f.FramesFull = refl
-some_fault f.CellsFull = refl
-some_fault f.TooDeep = refl
-some_fault f.NoFunction = refl
+no_trace None n = refl
+no_trace (Some x) n = refl
 
 -- ---- a run that was granted
 
@@ -199,9 +180,9 @@ module _ (m : Vm) (s : Stores) (l : Lent) (u : ℕ) (k : Fixed) (g : Going) (c :
         (unfold vm_ended in refl)
         (rw machine_ended machine_sane)
 
-    run_ended : RunPost (continues u) m s l (ended_with m now) left
+    run_ended : RunPost (continues u) m s l (Ok (ended_with m now)) left
     run_ended =
-        posted m s l (continues u) granted (part_is _ e) (ended_with m now) left
+        posted m s l (continues u) granted (part_is _ e) (Ok (ended_with m now)) left
         (unfold run_lent in an_end_answers_by_the_rules m now left k current_put callers_stay world start given)
         (unfold run_lent in refl)
         (unfold part_of trace_of_part run_lent written in rw (no_trace (answer_in now) (tally_of now)))
@@ -236,36 +217,36 @@ module _ (m : Vm) (s : Stores) (l : Lent) (u : ℕ) (k : Fixed) (g : Going) (c :
         (unfold vm_paused run_lent in record { cells = h.turns.fits.cells.exact; stack = exact_at_lem now.sp stack h.turns.fits.stack.exact; frames = omega arith })
         (unfold vm_paused in refl) paused_exact under_sane
 
-    run_paused : RunPost (continues u) m s l (paused_with m given now) left
+    run_paused : RunPost (continues u) m s l (Ok (paused_with m given now)) left
     run_paused =
-        posted m s l (continues u) granted (part_is _ e) (paused_with m given now) left
+        posted m s l (continues u) granted (part_is _ e) (Ok (paused_with m given now)) left
         (unfold run_lent in a_pause_answers_by_the_rules m now left k current_put callers_stay h.begins.fixed.given refl world)
         (unfold run_lent in refl)
         (unfold part_of trace_of_part entry_words run_lent written in refl)
         rooms
         (unfold paused_with in leaves_paused)
 
-  settled_by : Ends world k part_end c stack cells frames → (eqb c.fault 0 || eqb c.fault 13) ≡ true → RunPost (continues u) m s l (settled_with m given now c.fault) left
+  settled_by : Ends world k part_end c stack cells frames → ((y : Fault) → c.turn ≡ t.Stopped y → ⊥) → RunPost (continues u) m s l (Ok (settled_with m given now (stands_paused c.turn))) left
   unfolding settled_with
   settled_by (over n e z) fine = rw n (run_ended e)
   settled_by (pause n e z o) fine = rw n (run_paused e)
-  settled_by (stop x n e t) fine = absurd (true≢false (sym fine ∙ rw n (some_fault x)))
+  settled_by (stop x n e t) fine = absurd (fine x n)
 
-  pub run_settled : (eqb c.fault 0 || eqb c.fault 13) ≡ true → RunPost (continues u) m s l (settled_with m given now c.fault) left
+  pub run_settled : ((y : Fault) → c.turn ≡ t.Stopped y → ⊥) → RunPost (continues u) m s l (Ok (settled_with m given now (stands_paused c.turn))) left
   run_settled fine = settled_by came fine
 
   -- ---- a fault has stopped it
 
-  stopped_by : Ends world k part_end c stack cells frames → (eqb c.fault 0 || eqb c.fault 13) ≡ false → Stops (continues u) m s l now here c.fault stack cells frames
+  stopped_by : Ends world k part_end c stack cells frames → {y : Fault} → c.turn ≡ t.Stopped y → Stops (continues u) m s l now here (fault_number y) stack cells frames
   unfolding part_of world_of world_in
-  stopped_by (over n e z) bad = absurd (true≢false (sym (rw n) ∙ bad))
-  stopped_by (pause n e z o) bad = absurd (true≢false (sym (rw n) ∙ bad))
-  stopped_by (stop x n e t) bad = record {
+  stopped_by (over n e z) q = absurd (let z : ◌≡◌ {A = ℕ} 0 1 = cc in let y : ⊥ = omega arith in y)
+  stopped_by (pause n e z o) q = absurd (let z : ◌≡◌ {A = ℕ} 0 1 = cc in let y : ⊥ = omega arith in y)
+  stopped_by (stop x n e t) {y} q = let same : y ≡ x = cc in rw same (record {
     granted = granted;
     saved = saved;
     long = trace_long l granted.fits.1.0;
     copy_stays = refl;
-    answer = part_is _ e ∙ rw n;
+    answer = part_is _ e;
     traced = t;
     sane = subst (SanePart world) (part_is _ e) (part_sane m s l (continues u) granted h.begins.bytes);
     exact_cells = exact_cut now.used now.mark cells h.turns.fits.mark h.turns.fits.cells.exact;
@@ -273,7 +254,7 @@ module _ (m : Vm) (s : Stores) (l : Lent) (u : ℕ) (k : Fixed) (g : Going) (c :
     stack_room = h.stack_room;
     cell_room = h.cell_room;
     frames_room = h.frames_room;
-  }
+  })
 
-  pub stops : (eqb c.fault 0 || eqb c.fault 13) ≡ false → Stops (continues u) m s l now here c.fault stack cells frames
-  stops bad = stopped_by came bad
+  pub stops : {y : Fault} → c.turn ≡ t.Stopped y → Stops (continues u) m s l now here (fault_number y) stack cells frames
+  stops q = stopped_by came q

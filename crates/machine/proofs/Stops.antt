@@ -4,6 +4,7 @@
 --     trace-ready, frame-there             its backtrace and its frame can be written
 --     run-stopped                          the call's contract
 -- Assumes nothing.
+use Rattle.std.specs.Prelude.{Ok}
 use mathlib.Core.Path.{◌≡◌, refl, sym, ap, ◌∙◌}
 use mathlib.Core.Bool.{true}
 use mathlib.Core.List.{List, [], ◌∷◌}
@@ -164,9 +165,9 @@ module _ (c : RunCall) (m : Vm) (s : Stores) (l : Lent) (now : Going) (f : Frame
         let z = trace_ready.fits in
         rw (told_words_lem, sym k) (entries_told es l.backtrace (omega arith))
 
-    pub run_stopped : RunPost c m s l (faulted_with m now n) left
+    pub run_stopped : RunPost c m s l (Ok (faulted_with m now n)) left
     run_stopped =
-        posted m s l c h.granted h.answer (faulted_with m now n) left
+        posted m s l c h.granted h.answer (Ok (faulted_with m now n)) left
         (unfold run_lent in a_fault_answers_by_the_rules m now left world stack_put_back main_put no_callers n told_entries)
         (unfold run_lent in h.copy_stays)
         (unfold run_lent trace_of_reply trace_of_part in rw told_words_lem)

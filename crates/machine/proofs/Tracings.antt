@@ -5,7 +5,7 @@
 --     trace-ready, trace-is             a backtrace that is not refused so can be written, and is the rules'
 --     trace-refused                     these refusals
 -- Assumes nothing.
-use Rattle.std.specs.Prelude.{if◌then◌else◌}
+use Rattle.std.specs.Prelude.{if◌then◌else◌, Err, Ok, Result}
 use mathlib.Core.Path.{◌≡◌, refl, sym, ap, subst, ◌∙◌}
 use mathlib.Core.Bool.{Bool, true, false, ◌&&◌, ◌||◌, true≢false}
 use mathlib.Core.List.{List, [], ◌∷◌}
@@ -17,8 +17,6 @@ use lib.ListN.{length, get_or, take}
 use Rattle.model.specs.declared.Counts.{Counts}
 use Rattle.model.specs.declared.Vm.{Vm}
 use Rattle.model.specs.declared.Frame.{Frame}
-use Rattle.model.specs.declared.Told.{Told}
-use Rattle.model.specs.declared.Told.TheVariants as t
 use Rattle.model.specs.Basics.{every_from, written}
 use Rattle.model.specs.Values.{places, most_places}
 use Rattle.model.specs.Programs.{Function, function_at, constant_limit, name_limit}
@@ -39,19 +37,21 @@ use Rattle.machine.specs.Links.{trace_program, frames_in, trace_refusal, Traceab
 use Rattle.machine.proofs.Granted.{functions_there}
 use Rattle.frames.proofs.Callers.{innermost_is, callers_are, length_callers}
 use Rattle.machine.proofs.Traced.{traced_first, traced_at, readable, trace_told, length_trace}
+use Rattle.model.specs.declared.Refusal.{Refusal}
+use Rattle.model.specs.declared.Refusal.TheVariants as why
 
 -- ---- 19, 17, or neither
 
 module _ (good : Bool) (n : ℕ) (out : List ℕ) where
-  pub is_short : good ≡ true → {room : ℕ} → room ≡ places 3 out → room < n → 17 ≡ trace_refusal good n out
+  pub is_short : good ≡ true → {room : ℕ} → room ≡ places 3 out → room < n → Err why.ResultTooShort ≡ trace_refusal good n out
   unfolding trace_refusal
   is_short g e h = rw (g, lt-ltb (places 3 out) n (omega (arith, e, h)))
 
-  pub has_room_lem : good ≡ true → {room : ℕ} → room ≡ places 3 out → n ≤ room → 0 ≡ trace_refusal good n out
+  pub has_room_lem : good ≡ true → {room : ℕ} → room ≡ places 3 out → n ≤ room → Ok tt ≡ trace_refusal good n out
   unfolding trace_refusal
   has_room_lem g e h = rw (g, le-ltb (places 3 out) n (omega (arith, e, h)))
 
-  pub is_bad : good ≡ false → 19 ≡ trace_refusal good n out
+  pub is_bad : good ≡ false → Err why.NotInOrder ≡ trace_refusal good n out
   unfolding trace_refusal
   is_bad g = rw g
 
@@ -66,34 +66,35 @@ module _ (words main other : List ℕ) (n : ℕ) (frames : List Frame) {k : ℕ}
       → Traceable words main other n frames room → TraceFits words main other f k frames room
   trace_can ek ef eb on can = rw (ef, ek) (can.fits (judged ek ef eb ∙ on))
 
-  module _ (out : List ℕ) {r : Told} where
+  module _ (out : List ℕ) where
     pub trace_wrote : k ≡ n - 1 → f ≡ get_or frames k no_frame → b ≡ trace_good words (f ∷ callers_of k frames) → b ≡ true → {out' : List ℕ}
-        → out' ≡ written out 0 (trace_words words main other (f ∷ callers_of k frames)) → r ≡ t.Number n
-        → record { answer = r; out = out' } ≡ trace_into words main other n frames out
+        → out' ≡ written out 0 (trace_words words main other (f ∷ callers_of k frames))
+        → record { answer = Ok n; out = out' } ≡ trace_into words main other n frames out
     unfolding trace_into frames_in
-    trace_wrote ek ef eb on ew er = rw (judged ek ef eb, on, ew, er, ef, ek)
+    trace_wrote ek ef eb on ew = rw (judged ek ef eb, on, ew, ef, ek)
 
-    pub trace_none : k ≡ n - 1 → f ≡ get_or frames k no_frame → b ≡ trace_good words (f ∷ callers_of k frames) → b ≡ false → r ≡ t.Refused 16
-        → record { answer = r; out = out } ≡ trace_into words main other n frames out
+    pub trace_none : k ≡ n - 1 → f ≡ get_or frames k no_frame → b ≡ trace_good words (f ∷ callers_of k frames) → b ≡ false
+        → record { answer = Err why.PlaceOutsideCode; out = out } ≡ trace_into words main other n frames out
     unfolding trace_into
-    trace_none ek ef eb off er = rw (judged ek ef eb, off, er)
+    trace_none ek ef eb off = rw (judged ek ef eb, off)
 
--- the number, by the two tests
-abbrev number_by : Bool → Bool → ℕ
-number_by a b = if a then (if b then 17 else 0) else 19
+-- the refusal, by the two tests
+abbrev told_by : Bool → Bool → Result Unit Refusal
+told_by a b = if a then (if b then Err why.ResultTooShort else Ok tt) else Err why.NotInOrder
 
-none_good : (a b : Bool) → number_by a b ≡ 0 → (a ≡ true) × (b ≡ false)
-none_good true true e = absurd (let z : ⊥ = omega (arith, e) in z)
+none_good : (a b : Bool) → told_by a b ≡ Ok tt → (a ≡ true) × (b ≡ false)
+none_good true true e = absurd (let z : ◌≡◌ {A = ℕ} 0 1 = cc in let y : ⊥ = omega arith in y)
 none_good true false e = (refl, refl)
-none_good false b e = absurd (let z : ⊥ = omega (arith, e) in z)
+none_good false b e = absurd (let z : ◌≡◌ {A = ℕ} 0 1 = cc in let y : ⊥ = omega arith in y)
 
-abbrev refused_with : ℕ → List ℕ → OutRes
-refused_with w out = record { answer = t.Refused w; out = out }
+abbrev refused_with : Refusal → List ℕ → OutRes
+refused_with e out = record { answer = Err e; out = out }
 
-refused_by_lem : (a b : Bool) (x : OutRes) (out : List ℕ) {w : ℕ} → w ≡ number_by a b → (w ≡ 0 → ⊥) → refused_with w out ≡ (if a then (if b then refused_with 17 out else x) else refused_with 19 out)
-refused_by_lem true true x out e some = ap (λ (w : ℕ). refused_with w out) e
-refused_by_lem true false x out e some = absurd (some e)
-refused_by_lem false b x out e some = ap (λ (w : ℕ). refused_with w out) e
+refused_by_lem : (a b : Bool) (x : OutRes) (out : List ℕ) {e : Refusal} → Err e ≡ told_by a b
+    → refused_with e out ≡ (if a then (if b then refused_with why.ResultTooShort out else x) else refused_with why.NotInOrder out)
+refused_by_lem true true x out {e} h = let z : e ≡ why.ResultTooShort = cc in ap (λ (w : Refusal). refused_with w out) z
+refused_by_lem true false x out h = absurd (let z : ◌≡◌ {A = ℕ} 0 1 = cc in let y : ⊥ = omega arith in y)
+refused_by_lem false b x out {e} h = let z : e ≡ why.NotInOrder = cc in ap (λ (w : Refusal). refused_with w out) z
 
 -- ---- what is lent
 
@@ -246,8 +247,8 @@ module _ (m : Vm) (structs constants functions text main main_places other other
   frames_judged stack frames true f e g = g ∙ by_words (sym e) (places 2 stack) frames ∙ sym (by_parts stack frames ∙ ap (λ (b : Bool). b && frame_store_ok fs (places 2 stack) n frames) (sym e))
   frames_judged stack frames false f e g = sym (by_parts stack frames ∙ ap (λ (b : Bool). b && frame_store_ok fs (places 2 stack) n frames) (sym e))
 
-  module _ (stack : List ℕ) (frames : List Frame) (out : List ℕ) {w : ℕ} (told : w ≡ trace_refusal (trace_order m stores stack frames) n out) where
-    module _ (none : w ≡ 0) where
+  module _ (stack : List ℕ) (frames : List Frame) (out : List ℕ) {w : Result Unit Refusal} (told : w ≡ trace_refusal (trace_order m stores stack frames) n out) where
+    module _ (none : w ≡ Ok tt) where
       order : trace_order m stores stack frames ≡ true
       unfolding trace_refusal
       order = (none_good (trace_order m stores stack frames) (ltb (places 3 out) n) (sym told ∙ none)).0
@@ -272,6 +273,6 @@ module _ (m : Vm) (structs constants functions text main main_places other other
           let k : n - 1 ≤ length frames = omega (arith, there program (places 2 stack) frames framed) in
           written_is program (places 2 stack) frames framed (trace_good functions (frames_in n frames)) refl out ∙ rw (order, room, innermost_is n frames refl, callers_are n frames refl k)
 
-    pub trace_refused : (w ≡ 0 → ⊥) → refused_with w out ≡ backtrace_in m stores stack frames out
+    pub trace_refused : {e : Refusal} → w ≡ Err e → refused_with e out ≡ backtrace_in m stores stack frames out
     unfolding backtrace_in trace_refusal
-    trace_refused some = refused_by_lem (trace_order m stores stack frames) (ltb (places 3 out) n) _ out told some
+    trace_refused is = refused_by_lem (trace_order m stores stack frames) (ltb (places 3 out) n) _ out (sym is ∙ told)

@@ -5,6 +5,7 @@ pub mod running; // running.rt: a run's judging, its going on, its end, and reco
 pub mod starting; // starting.rt: making a machine, all but its frame
 pub mod tracing; // tracing.rt: judging and writing a backtrace
 
+ghost use Rattle.layout.specs.Lent.{stores_in};
 ghost use Rattle.std.specs.Prelude.{◌≡◌, List, ℕ};
 ghost use Rattle.model.specs.Machines.{backtrace_in, begins, continues, abandons, RunPost, set_strict, load_machine_of, new_machine_of};
 ghost use Rattle.model.specs.Stores.{Stores};
@@ -13,218 +14,90 @@ ghost use Rattle.model.specs.Stores.{stores_of as lent};
 ghost use Rattle.run_ends.specs.Links.{program_lent};
 ghost use Rattle.machine.specs.Links.{run_lent};
 
-use crate::running::{current, go, not_run, order, stop};
-use crate::starting::{first_frame, is_done, load_program, new_program};
-use crate::tracing::{put_trace, refused, trace_order, trace_refusal};
+use crate::running::{current, go, order, stop};
+use crate::starting::{first_frame, load_program, new_program};
+use crate::tracing::{may_trace, put_trace, trace_order};
 use frames::{push_frame, unenter};
-use model::{Changed, Frame, RunResult, Started, Told, Vm};
+use layout::lent::ProgramStores;
+use model::{Frame, Halt, Refusal, Vm};
 use run_ends::{
-    abandon_refusal, abandoned, begin_refusal, begun, continue_refusal, copy_front, cut_frame,
-    set_to,
+    abandoned, begun, copy_front, cut_frame, may_abandon, may_begin, may_continue, set_to,
 };
 
 // A run is begun: the stack is copied, and the numbers of units at which its frames were entered are set to 0. It writes no backtrace, so its promise is
 // of any store for one.
 pub fn begin(
     m: Vm,
-    constants: &[u64],
-    structs: &[u64],
-    functions: &[u64],
-    text: &[u8],
-    main: &[u8],
-    main_places: &[u32],
-    other: &[u8],
-    other_places: &[u32],
+    stores: &ProgramStores,
     stack: &[u64],
     cells: &[u64],
     frames: &mut [Frame],
     copy: &mut [u64],
-) -> RunResult
-    ensures { (backtrace : List ℕ) → RunPost begins m (program_lent structs.now constants.now functions.now text.now main.now main_places.now other.now other_places.now) (run_lent stack.now cells.now frames.old copy.old backtrace) result (run_lent stack.now cells.now frames.new copy.new backtrace) }
+) -> Result<Halt, Refusal>
+    ensures { (backtrace : List ℕ) → RunPost begins m (stores_in stores.now) (run_lent stack.now cells.now frames.old copy.old backtrace) result (run_lent stack.now cells.now frames.new copy.new backtrace) }
 {
-    let good = order(
-        m,
-        constants,
-        structs,
-        functions,
-        text,
-        main,
-        main_places,
-        other,
-        other_places,
-        stack,
-        cells,
-        frames,
-        copy,
-    );
-    let why = begin_refusal(good, m, stack.len(), copy.len());
-    if why == 0 {
-        let n = m.stack;
-        copy_front(n, stack, copy);
-        let count = m.frames;
-        unenter(frames, count);
-        let f = current(m, frames);
-        let answer = begun(m, f, functions);
-        return answer;
-    }
-    let answer = not_run(why);
-    answer
+    let good = order(m, stores, stack, cells, frames, copy);
+    may_begin(good, m, stack.len(), copy.len())?;
+    stores.code_is_bytes();
+    copy_front(m.stack, stack, copy);
+    unenter(frames, m.frames);
+    let f = current(m, frames);
+    Ok(begun(m, f, stores.functions))
 }
 
 // The run that is under way goes on, with `units` more.
 pub fn continue_run(
     m: Vm,
     units: u64,
-    constants: &[u64],
-    structs: &[u64],
-    functions: &[u64],
-    text: &[u8],
-    main: &[u8],
-    main_places: &[u32],
-    other: &[u8],
-    other_places: &[u32],
+    stores: &ProgramStores,
     stack: &mut [u64],
     cells: &mut [u64],
     frames: &mut [Frame],
     copy: &[u64],
     backtrace: &mut [u64],
-) -> RunResult
-    ensures { RunPost (continues units) m (program_lent structs.now constants.now functions.now text.now main.now main_places.now other.now other_places.now) (run_lent stack.old cells.old frames.old copy.now backtrace.old) result (run_lent stack.new cells.new frames.new copy.now backtrace.new) }
+) -> Result<Halt, Refusal>
+    ensures { RunPost (continues units) m (stores_in stores.now) (run_lent stack.old cells.old frames.old copy.now backtrace.old) result (run_lent stack.new cells.new frames.new copy.now backtrace.new) }
 {
-    let good = order(
-        m,
-        constants,
-        structs,
-        functions,
-        text,
-        main,
-        main_places,
-        other,
-        other_places,
-        stack,
-        cells,
-        frames,
-        copy,
-    );
-    let why = continue_refusal(good, m, units, frames.len(), backtrace.len());
-    if why == 0 {
-        let answer = go(
-            m,
-            units,
-            constants,
-            structs,
-            functions,
-            text,
-            main,
-            main_places,
-            other,
-            other_places,
-            stack,
-            cells,
-            frames,
-            copy,
-            backtrace,
-        );
-        return answer;
-    }
-    let answer = not_run(why);
-    answer
+    let good = order(m, stores, stack, cells, frames, copy);
+    may_continue(good, m, units, frames.len(), backtrace.len())?;
+    Ok(go(m, units, stores, stack, cells, frames, copy, backtrace))
 }
 
 // The run that is under way is abandoned: fault 13.
 pub fn abandon(
     m: Vm,
-    constants: &[u64],
-    structs: &[u64],
-    functions: &[u64],
-    text: &[u8],
-    main: &[u8],
-    main_places: &[u32],
-    other: &[u8],
-    other_places: &[u32],
+    stores: &ProgramStores,
     stack: &mut [u64],
     cells: &[u64],
     frames: &mut [Frame],
     copy: &[u64],
     backtrace: &mut [u64],
-) -> RunResult
-    ensures { RunPost abandons m (program_lent structs.now constants.now functions.now text.now main.now main_places.now other.now other_places.now) (run_lent stack.old cells.now frames.old copy.now backtrace.old) result (run_lent stack.new cells.now frames.new copy.now backtrace.new) }
+) -> Result<Halt, Refusal>
+    ensures { RunPost abandons m (stores_in stores.now) (run_lent stack.old cells.now frames.old copy.now backtrace.old) result (run_lent stack.new cells.now frames.new copy.now backtrace.new) }
 {
-    let good = order(
-        m,
-        constants,
-        structs,
-        functions,
-        text,
-        main,
-        main_places,
-        other,
-        other_places,
-        stack,
-        cells,
-        frames,
-        copy,
-    );
-    let why = abandon_refusal(good, m, frames.len(), backtrace.len());
-    if why == 0 {
-        let f = current(m, frames);
-        let cut = cut_frame(m, f);
-        let g = abandoned(m, cut);
-        let answer = stop(
-            m,
-            g,
-            cut,
-            13,
-            functions,
-            main_places,
-            other_places,
-            stack,
-            frames,
-            copy,
-            backtrace,
-        );
-        return answer;
-    }
-    let answer = not_run(why);
-    answer
+    let good = order(m, stores, stack, cells, frames, copy);
+    may_abandon(good, m, frames.len(), backtrace.len())?;
+    stores.code_is_bytes();
+    let f = current(m, frames);
+    let cut = cut_frame(m, f);
+    let g = abandoned(m, cut);
+    Ok(stop(m, g, cut, 13, stores, stack, frames, copy, backtrace))
 }
 
 // Whether the machine is strict from now on.
 pub fn set_strict(
     m: Vm,
     strict: bool,
-    constants: &[u64],
-    structs: &[u64],
-    functions: &[u64],
-    text: &[u8],
-    main: &[u8],
-    main_places: &[u32],
-    other: &[u8],
-    other_places: &[u32],
+    stores: &ProgramStores,
     stack: &[u64],
     cells: &[u64],
     frames: &[Frame],
     copy: &[u64],
-) -> Changed
-    ensures { (backtrace : List ℕ) → result ≡ set_strict strict m (program_lent structs.now constants.now functions.now text.now main.now main_places.now other.now other_places.now) (run_lent stack.now cells.now frames.now copy.now backtrace) }
+) -> Result<Vm, Refusal>
+    ensures { (backtrace : List ℕ) → result ≡ set_strict strict m (stores_in stores.now) (run_lent stack.now cells.now frames.now copy.now backtrace) }
 {
-    let good = order(
-        m,
-        constants,
-        structs,
-        functions,
-        text,
-        main,
-        main_places,
-        other,
-        other_places,
-        stack,
-        cells,
-        frames,
-        copy,
-    );
-    let set = set_to(good, m, strict);
-    set
+    let good = order(m, stores, stack, cells, frames, copy);
+    set_to(good, m, strict)
 }
 
 // The backtrace of a machine's frames, into out, and how many entries it has.
@@ -239,10 +112,9 @@ pub fn backtrace(
     stack: &[u64],
     frames: &[Frame],
     out: &mut [u64],
-) -> Told
+) -> Result<usize, Refusal>
     ensures { (structs constants : List ℕ) → record { answer = result; out = out.new } ≡ backtrace_in m (program_lent structs constants functions.now text.now main.now main_places.now other.now other_places.now) stack.now frames.now out.old }
 {
-    let n = m.frames;
     let good = trace_order(
         m,
         functions,
@@ -254,27 +126,22 @@ pub fn backtrace(
         stack,
         frames,
     );
-    let why = trace_refusal(good, n, out.len());
-    if why == 0 {
-        let told = put_trace(n, functions, main_places, other_places, frames, out);
-        return told;
-    }
-    let told = refused(why);
-    told
+    may_trace(good, m.frames, out.len())?;
+    put_trace(m.frames, functions, main_places, other_places, frames, out)
 }
 
 // A machine over a new program, unless one with a run under way (`running`) stands there.
-pub fn new(running: bool, functions: &mut [u64], text: &mut [u8], frames: &mut [Frame]) -> Started
+pub fn new(
+    running: bool,
+    functions: &mut [u64],
+    text: &mut [u8],
+    frames: &mut [Frame],
+) -> Result<Vm, Refusal>
     ensures { (rest : Stores) → record { answer = result; stores = names_lent rest functions.new text.new; frames = frames.new } ≡ new_machine_of running (names_lent rest functions.old text.old) frames.old }
 {
-    let made = new_program(running, functions, text, frames.len());
-    let done = is_done(made);
-    if done {
-        let f = first_frame();
-        push_frame(frames, 0, f);
-        return made;
-    }
-    made
+    let made = new_program(running, functions, text, frames.len())?;
+    push_frame(frames, 0, first_frame());
+    Ok(made)
 }
 
 // A machine over the program of an image, unless one with a run under way (`running`) stands there.
@@ -290,7 +157,7 @@ pub fn load(
     other: &mut [u8],
     other_places: &mut [u32],
     frames: &mut [Frame],
-) -> Started
+) -> Result<Vm, Refusal>
     ensures { record { answer = result; stores = lent constants.new structs.new functions.new text.new main.new main_places.new other.new other_places.new; frames = frames.new } ≡ load_machine_of running image.now (lent constants.old structs.old functions.old text.old main.old main_places.old other.old other_places.old) frames.old }
 {
     let made = load_program(
@@ -305,12 +172,7 @@ pub fn load(
         other,
         other_places,
         frames.len(),
-    );
-    let done = is_done(made);
-    if done {
-        let f = first_frame();
-        push_frame(frames, 0, f);
-        return made;
-    }
-    made
+    )?;
+    push_frame(frames, 0, first_frame());
+    Ok(made)
 }

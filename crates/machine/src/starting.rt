@@ -5,12 +5,12 @@ ghost use Rattle.model.specs.Stores.{Stores};
 ghost use Rattle.model.specs.Machines.{load_machine_of, new_machine_of};
 ghost use Rattle.layout.specs.Links.{names_lent};
 ghost use Rattle.model.specs.Stores.{stores_of as lent};
-ghost use Rattle.machine.specs.Links.{is_done, Makes};
+ghost use Rattle.machine.specs.Links.{Makes};
 
 use emission_functions::new;
-use image_judge::{Judgement, judge};
-use image_load::load;
-use model::{CONSTANT_LIMIT, Counts, Emitted, Frame, Loaded, NAME_LIMIT, Started};
+use image_judge::judge;
+use image_load::{load, within_limits};
+use model::{Frame, Refusal, Vm};
 use run_ends::{fresh_vm, root_frame};
 
 // The first frame: main's, at position 0.
@@ -20,33 +20,15 @@ pub fn first_frame() -> Frame
     root_frame(0)
 }
 
-pub fn is_done(r: Started) -> bool
-    ensures { result ≡ is_done r }
-{
-    match r {
-        Started::Done(m) => true,
-        Started::Broken(i) => false,
-        Started::Refused(n) => false,
-    }
-}
-
 // What loading answers where there is no place for a frame: what is wrong with the image comes first.
-pub fn no_place(image: &[u8]) -> Started
+pub fn no_place(image: &[u8]) -> Result<Vm, Refusal>
     ensures { (s : Stores) → Makes (load_machine_of false image.now s) 0 result s }
 {
-    match judge(image) {
-        Judgement::Broken(o) => Started::Broken(o),
-        Judgement::Fine(z) => {
-            let within = (z.constants <= CONSTANT_LIMIT)
-                & (z.structs <= NAME_LIMIT)
-                & (z.functions <= NAME_LIMIT)
-                & z.within;
-            if within {
-                return Started::Refused(21);
-            }
-            Started::Refused(22)
-        }
+    let z = judge(image)?;
+    if !within_limits(z) {
+        return Err(Refusal::OverLimit);
     }
+    Err(Refusal::StoreFull)
 }
 
 // Loads the program, unless a run is under way (`running`); `frames` is how many places the frame store has.
@@ -62,16 +44,16 @@ pub fn load_program(
     other: &mut [u8],
     other_places: &mut [u32],
     frames: usize,
-) -> Started
+) -> Result<Vm, Refusal>
     ensures { Makes (load_machine_of running image.now (lent constants.old structs.old functions.old text.old main.old main_places.old other.old other_places.old)) frames result (lent constants.new structs.new functions.new text.new main.new main_places.new other.new other_places.new) }
 {
     if running {
-        return Started::Refused(25);
+        return Err(Refusal::RunUnderWay);
     }
     if frames == 0 {
         return no_place(image);
     }
-    let loaded = load(
+    let counts = load(
         image,
         constants,
         structs,
@@ -81,33 +63,25 @@ pub fn load_program(
         main_places,
         other,
         other_places,
-    );
-    match loaded {
-        Loaded::Done(c) => {
-            let m = fresh_vm(c);
-            Started::Done(m)
-        }
-        Loaded::Broken(i) => Started::Broken(i),
-        Loaded::Refused(n) => Started::Refused(n),
-    }
+    )?;
+    Ok(fresh_vm(counts))
 }
 
 // Emits a new program, unless a run is under way (`running`); `frames` is how many places the frame store has.
-pub fn new_program(running: bool, functions: &mut [u64], text: &mut [u8], frames: usize) -> Started
+pub fn new_program(
+    running: bool,
+    functions: &mut [u64],
+    text: &mut [u8],
+    frames: usize,
+) -> Result<Vm, Refusal>
     ensures { (rest : Stores) → Makes (new_machine_of running (names_lent rest functions.old text.old)) frames result (names_lent rest functions.new text.new) }
 {
     if running {
-        return Started::Refused(25);
+        return Err(Refusal::RunUnderWay);
     }
     if frames == 0 {
-        return Started::Refused(21);
+        return Err(Refusal::StoreFull);
     }
-    let emitted = new(functions, text);
-    match emitted {
-        Emitted::Done(c, n) => {
-            let m = fresh_vm(c);
-            Started::Done(m)
-        }
-        Emitted::Refused(n) => Started::Refused(n),
-    }
+    let (counts, _) = new(functions, text)?;
+    Ok(fresh_vm(counts))
 }

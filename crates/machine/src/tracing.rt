@@ -1,6 +1,5 @@
 // The backtrace of a machine's frames: judging what it is lent, and writing. Of the stack its room is looked at alone: bases lie within it.
 ghost use Rattle.std.specs.Prelude.{◌≡◌, ◌&&◌, List, ℕ, length, if◌then◌else◌};
-ghost use Rattle.model.specs.declared.Told.TheVariants as t;
 ghost use Rattle.model.specs.Machines.{trace_order};
 ghost use Rattle.run_ends.specs.Links.{program_lent};
 ghost use Rattle.machine.specs.Links.{trace_program, trace_refusal, Traceable, trace_into};
@@ -9,7 +8,7 @@ use frames::backtrace::{trace, traceable};
 use frames::order::frames_ok;
 use frames::read_frame;
 use layout::reads::room;
-use model::{Frame, Told, Vm};
+use model::{Frame, Refusal, Vm};
 use program::order::{counts_ok, functions_ok, inside_codes, main_ok, text_ok};
 use run_ends::innermost_at;
 
@@ -73,30 +72,17 @@ pub fn trace_order(
     all
 }
 
-// 19 or 17, or 0 where there may be a backtrace of n frames in a store of this length.
-pub fn trace_refusal(good: bool, n: usize, size: usize) -> u8
+// Whether there may be a backtrace of n frames in a store of this length.
+pub fn may_trace(good: bool, n: usize, size: usize) -> Result<(), Refusal>
     ensures { (out : List ℕ) → length out ≡ size → result ≡ trace_refusal good n out }
 {
-    if good {
-        let places = room(size, 3);
-        if places < n {
-            return 17;
-        }
-        return 0;
+    if !good {
+        return Err(Refusal::NotInOrder);
     }
-    19
-}
-
-pub fn refused(n: u8) -> Told
-    ensures { result ≡ t.Refused n }
-{
-    Told::Refused(n)
-}
-
-fn number(n: usize) -> Told
-    ensures { result ≡ t.Number n }
-{
-    Told::Number(n)
+    if room(size, 3) < n {
+        return Err(Refusal::ResultTooShort);
+    }
+    Ok(())
 }
 
 // The backtrace of n frames, or 16.
@@ -107,7 +93,7 @@ pub fn put_trace(
     other_places: &[u32],
     frames: &[Frame],
     out: &mut [u64],
-) -> Told
+) -> Result<usize, Refusal>
     requires { Traceable functions.now main_places.now other_places.now n frames.now (length out.old) }
     ensures { record { answer = result; out = out.new } ≡ trace_into functions.now main_places.now other_places.now n frames.now out.old }
 {
@@ -124,9 +110,7 @@ pub fn put_trace(
             frames,
             out,
         );
-        let told = number(n);
-        return told;
+        return Ok(n);
     }
-    let told = refused(16);
-    told
+    Err(Refusal::PlaceOutsideCode)
 }

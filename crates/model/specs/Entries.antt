@@ -1,21 +1,13 @@
 -- [parts] The calls of a run as entries, over small stores: what each answers and leaves, and every refusal of it in its place. One table, one claim.
-use Rattle.std.specs.Prelude.{◌≡◌, refl, Bool, true, false, List, [], ◌∷◌, ◌++◌, map, ℕ, replicate}
+use Rattle.std.specs.Prelude.{◌≡◌, refl, Bool, true, false, List, [], ◌∷◌, ◌++◌, map, ℕ, replicate, Err, None, Ok, Option, Result, Some}
 use Rattle.std.specs.Int.Count.{count_trailing_zeros}
 use Rattle.std.specs.Float.Ieee as Ieee
 use Rattle.model.specs.declared.Value.{Value}
 use Rattle.model.specs.declared.Value.TheVariants as v
-use Rattle.model.specs.declared.Last.{Last}
-use Rattle.model.specs.declared.Last.TheVariants.{Nothing, Is}
 use Rattle.model.specs.declared.Frame.{Frame}
 use Rattle.model.specs.declared.Run.{Run}
 use Rattle.model.specs.declared.Tally.{Tally}
 use Rattle.model.specs.declared.Vm.{Vm}
-use Rattle.model.specs.declared.Emitted.{Emitted}
-use Rattle.model.specs.declared.Emitted.TheVariants as e
-use Rattle.model.specs.declared.Changed.{Changed}
-use Rattle.model.specs.declared.Changed.TheVariants as ch
-use Rattle.model.specs.declared.Started.{Started}
-use Rattle.model.specs.declared.Started.TheVariants as st
 use Rattle.model.specs.Programs.{Program}
 use Rattle.model.specs.Heap.{heap_of}
 use Rattle.model.specs.Runs.{Machine, root, entry, value, continue, fault, Part, ends, pauses}
@@ -43,6 +35,9 @@ use Rattle.model.specs.Machines as machines
 use Rattle.model.specs.Reports as reports
 use Rattle.model.specs.Reports.{empty_stores}
 use Rattle.model.specs.Examples as examples
+use Rattle.model.specs.declared.Counts.{Counts}
+use Rattle.model.specs.declared.Refusal.{Refusal}
+use Rattle.model.specs.Answers.{refusal_number}
 
 -- ---- the program: a list of 42 is returned; another is built and compared with it, and the verdict returned. 9 units, 2 of them for Equal at byte 14
 
@@ -66,21 +61,21 @@ lent_stores = stores_for twice
 
 -- ---- the machine: true on the stack. Idle, at the start of main; and given 7 units, before Equal with 1 unit left
 
-abbrev vm : ℕ → ℕ → Last → Run → Vm
+abbrev vm : ℕ → ℕ → Option Value → Run → Vm
 vm n cells last r = record { program = counts_for twice; stack = n; frames = 1; cells = cells; last = last; run = r; strict = false }
 
 abbrev under : ℕ → ℕ → ℕ → ℕ → ℕ → Run
 under given spent returns mark saved = record { on = true; given = given; spent = spent; returns = returns; mark = mark; saved = saved }
 
 abbrev idle : Vm
-idle = vm 1 0 Nothing no_run
+idle = vm 1 0 None no_run
 
 -- the same, with n frames
 abbrev vm_in : ℕ → Vm
-vm_in n = record { program = counts_for twice; stack = 1; frames = n; cells = 0; last = Nothing; run = no_run; strict = false }
+vm_in n = record { program = counts_for twice; stack = 1; frames = n; cells = 0; last = None; run = no_run; strict = false }
 
 abbrev paused : Vm
-paused = vm 3 4 (Is (v.List 0)) (under 7 6 1 2 1)
+paused = vm 3 4 (Some (v.List 0)) (under 7 6 1 2 1)
 
 -- a list of 42
 abbrev block : List ℕ
@@ -126,45 +121,43 @@ asked c m l = shown_as (run_answer c m lent_stores l) (copy_after c m lent_store
 -- ---- two large readings are multiplied, on a machine that has been begun
 
 abbrev multiplying : Bool → Vm
-multiplying strict = record { program = counts_for product; stack = 0; frames = 1; cells = 0; last = Nothing; run = under 0 0 0 0 0; strict = strict }
+multiplying strict = record { program = counts_for product; stack = 0; frames = 1; cells = 0; last = None; run = under 0 0 0 0 0; strict = strict }
 
 unfoldable pub multiplied : Bool → RunAnswer
 multiplied strict = run_answer (continues 9) (multiplying strict) (stores_for product) (lent_at 0)
 
-unfoldable pub setting_of : Changed → Shown
-setting_of (ch.Done m) = setting m.strict
-setting_of (ch.Refused n) = not n
+unfoldable pub setting_of : Result Vm Refusal → Shown
+setting_of (Ok m) = setting m.strict
+setting_of (Err e) = not (refusal_number e)
 
 unfoldable pub setting_in : RunAnswer → Shown
 setting_in (ran c x) = setting c.strict
 setting_in (refused n) = not n
 
-unfoldable pub started_setting : Started → Shown
-started_setting (st.Done m) = setting m.strict
-started_setting (st.Broken i) = not 20
-started_setting (st.Refused n) = not n
+unfoldable pub started_setting : Result Vm Refusal → Shown
+started_setting (Ok m) = setting m.strict
+started_setting (Err e) = not (refusal_number e)
 
-unfoldable pub started_as : Started → Shown
-started_as (st.Done m) = not 0
-started_as (st.Broken i) = not 20
-started_as (st.Refused n) = not n
+unfoldable pub started_as : Result Vm Refusal → Shown
+started_as (Ok m) = not 0
+started_as (Err e) = not (refusal_number e)
 
-unfoldable pub emitted_as : Emitted → Shown
-emitted_as (e.Done c n) = not 0
-emitted_as (e.Refused n) = not n
+unfoldable pub emitted_as : Result (Counts × ℕ) Refusal → Shown
+emitted_as (Ok (c, n)) = not 0
+emitted_as (Err e) = not (refusal_number e)
 
 -- a state of main
-abbrev state : List Value → ℕ → ℕ → Last → (spent units : ℕ) → steps.State
+abbrev state : List Value → ℕ → ℕ → Option Value → (spent units : ℕ) → steps.State
 state vs i n last e u = record { stack = vs; frame = root i; callers = []; heap = heap_of n (block ++ block); last = last; spent = e; units = u }
 
-abbrev left : List Value → ℕ → ℕ → Last → Machine
+abbrev left : List Value → ℕ → ℕ → Option Value → Machine
 left vs i n last = record { stack = vs; frame = root i; callers = []; heap = heap_of n (block ++ block); last = last }
 
 abbrev paid : ℕ → ℕ → Tally
 paid spent returns = record { spent = spent; returns = returns }
 
 -- what is paused: units given; how far it has come; its state
-abbrev waits : ℕ → Last → ℕ → ℕ → Last → steps.State → Part
+abbrev waits : ℕ → Option Value → ℕ → ℕ → Option Value → steps.State → Part
 waits g answer returns mark last s = pauses (record {
   given = g;
   start = v.Boolean true ∷ [];
@@ -188,41 +181,41 @@ infix 4 ◌is◌
 unfoldable pub entries : List Row
 entries =
     -- a beginning copies the stack, takes no unit and asks for no backtrace store
-    (asked begins idle (lent_with (replicate 8 9) [] 0) is part (waits 0 Nothing 0 0 Nothing (state (v.Boolean true ∷ []) 0 0 Nothing 0 0)) saved [])
+    (asked begins idle (lent_with (replicate 8 9) [] 0) is part (waits 0 None 0 0 None (state (v.Boolean true ∷ []) 0 0 None 0 0)) saved [])
     -- abandoned right then: 0 units, byte 0
-    ∷ (asked abandons (vm 1 0 Nothing (under 0 0 0 0 1)) (lent_at 0)
-    is part (ends (record { reply = fault 13 (paid 0 0) (entry 0 0 0 ∷ []); machine = left (v.Boolean true ∷ []) 16 0 Nothing })) saved (0 ∷ 0 ∷ 0 ∷ []))
+    ∷ (asked abandons (vm 1 0 None (under 0 0 0 0 1)) (lent_at 0)
+    is part (ends (record { reply = fault 13 (paid 0 0) (entry 0 0 0 ∷ []); machine = left (v.Boolean true ∷ []) 16 0 None })) saved (0 ∷ 0 ∷ 0 ∷ []))
     -- it sets the numbers of units in all frames to 0
     ∷ (asked begins idle (lent_over (replicate 8 9) [] (main_at 0 9 ∷ []))
-    is part (waits 0 Nothing 0 0 Nothing (state (v.Boolean true ∷ []) 0 0 Nothing 0 0)) saved [])
+    is part (waits 0 None 0 0 None (state (v.Boolean true ∷ []) 0 0 None 0 0)) saved [])
     ∷ (asked begins (vm_in 2) (lent_over (replicate 8 9) [] (main_at 1 8 ∷ main_at 16 9 ∷ []))
-    is part (ends (record { reply = continue (paid 0 0); machine = record { stack = v.Boolean true ∷ []; frame = root 16; callers = root 1 ∷ []; heap = []; last = Nothing } })) saved [])
+    is part (ends (record { reply = continue (paid 0 0); machine = record { stack = v.Boolean true ∷ []; frame = root 16; callers = root 1 ∷ []; heap = []; last = None } })) saved [])
     -- a former last result is no answer of the run
-    ∷ (asked (continues 0) (vm 1 2 (Is (v.List 0)) (under 0 0 0 2 1)) (lent_at 0)
-    is part (waits 0 Nothing 0 2 (Is (v.List 0)) (state (v.Boolean true ∷ []) 0 2 (Is (v.List 0)) 0 0)) saved (9 ∷ 9 ∷ 9 ∷ []))
+    ∷ (asked (continues 0) (vm 1 2 (Some (v.List 0)) (under 0 0 0 2 1)) (lent_at 0)
+    is part (waits 0 None 0 2 (Some (v.List 0)) (state (v.Boolean true ∷ []) 0 2 (Some (v.List 0)) 0 0)) saved (9 ∷ 9 ∷ 9 ∷ []))
     -- at the end of its code, and with a last result: over at once with "continue"; the stack is copied
-    ∷ (asked begins (vm 1 2 (Is (v.List 0)) no_run) (lent_with (replicate 8 9) (9 ∷ 9 ∷ 9 ∷ []) 16)
-    is part (ends (record { reply = continue (paid 0 0); machine = left (v.Boolean true ∷ []) 16 2 (Is (v.List 0)) })) saved (9 ∷ 9 ∷ 9 ∷ []))
+    ∷ (asked begins (vm 1 2 (Some (v.List 0)) no_run) (lent_with (replicate 8 9) (9 ∷ 9 ∷ 9 ∷ []) 16)
+    is part (ends (record { reply = continue (paid 0 0); machine = left (v.Boolean true ∷ []) 16 2 (Some (v.List 0)) })) saved (9 ∷ 9 ∷ 9 ∷ []))
     -- no units: as it was
-    ∷ (asked (continues 0) paused (lent_at 14) is part (waits 7 (Is (v.List 0)) 1 2 (Is (v.List 0)) (state lists 14 4 (Is (v.List 0)) 6 1)) saved (9 ∷ 9 ∷ 9 ∷ []))
+    ∷ (asked (continues 0) paused (lent_at 14) is part (waits 7 (Some (v.List 0)) 1 2 (Some (v.List 0)) (state lists 14 4 (Some (v.List 0)) 6 1)) saved (9 ∷ 9 ∷ 9 ∷ []))
     -- one unit: it and the one that was left pay for Equal
     ∷ (asked (continues 1) paused (lent_at 14)
-    is part (waits 8 (Is (v.List 0)) 1 2 (Is (v.List 0)) (state (v.Boolean true ∷ v.Boolean true ∷ []) 15 4 (Is (v.List 0)) 8 0)) saved (9 ∷ 9 ∷ 9 ∷ []))
+    is part (waits 8 (Some (v.List 0)) 1 2 (Some (v.List 0)) (state (v.Boolean true ∷ v.Boolean true ∷ []) 15 4 (Some (v.List 0)) 8 0)) saved (9 ∷ 9 ∷ 9 ∷ []))
     -- and as many as 64 bits hold in all: the value of the second root Return
     ∷ (asked (continues 0xFFFF_FFFF_FFFF_FFF8) paused (lent_at 14)
-    is part (ends (record { reply = value (v.Boolean true) (paid 9 2); machine = left (v.Boolean true ∷ []) 16 4 (Is (v.Boolean true)) })) saved (9 ∷ 9 ∷ 9 ∷ []))
+    is part (ends (record { reply = value (v.Boolean true) (paid 9 2); machine = left (v.Boolean true ∷ []) 16 4 (Some (v.Boolean true)) })) saved (9 ∷ 9 ∷ 9 ∷ []))
     -- abandoned: all 7 units, the byte of Equal; the stack of the start, the cells and the last result of the first root Return
     ∷ (asked abandons paused (lent_at 14)
-    is part (ends (record { reply = fault 13 (paid 7 1) (entry 0 14 0 ∷ []); machine = left (v.Boolean true ∷ []) 16 2 (Is (v.List 0)) })) saved (0 ∷ 14 ∷ 0 ∷ []))
+    is part (ends (record { reply = fault 13 (paid 7 1) (entry 0 14 0 ∷ []); machine = left (v.Boolean true ∷ []) 16 2 (Some (v.List 0)) })) saved (0 ∷ 14 ∷ 0 ∷ []))
     -- 25, and 19 before it, and 17 behind it
     ∷ (asked begins paused (lent_at 14) is not 25)
     ∷ (asked begins paused (lent_with (1 ∷ 1 ∷ []) [] 14) is not 25)
-    ∷ (asked begins (vm 3 4 (Is (v.List 0)) (under 5 6 1 2 1)) (lent_at 14) is not 19)
+    ∷ (asked begins (vm 3 4 (Some (v.List 0)) (under 5 6 1 2 1)) (lent_at 14) is not 19)
     ∷ (asked begins idle (lent_with (replicate 6 9) [] 0) is not 17)
     -- 18, and 19 before it, and 17 behind it
     ∷ (asked (continues 1) idle (lent_with saved [] 0) is not 18)
     ∷ (asked abandons idle (lent_with saved [] 0) is not 18)
-    ∷ (asked (continues 1) (vm 1 0 Nothing (record { on = false; given = 1; spent = 0; returns = 0; mark = 0; saved = 0 })) (lent_at 0) is not 19)
+    ∷ (asked (continues 1) (vm 1 0 None (record { on = false; given = 1; spent = 0; returns = 0; mark = 0; saved = 0 })) (lent_at 0) is not 19)
     -- 17 before 22, 22 of the units given, spent or not
     ∷ (asked (continues 0xFFFF_FFFF_FFFF_FFF9) paused (lent_with saved [] 14) is not 17)
     ∷ (asked abandons paused (lent_with saved [] 14) is not 17)
@@ -230,31 +223,31 @@ entries =
     ∷ (asked (continues 0xFFFF_FFFF_FFFF_FFF9) paused (lent_at 14) is not 22)
     -- good order of a run under way: more spent than given; more root Returns than units spent, or one and no last result; a mark above the cells, or
     -- inside a list
-    ∷ (asked abandons (vm 3 4 (Is (v.List 0)) (under 5 6 1 2 1)) (lent_at 14) is not 19)
-    ∷ (asked abandons (vm 3 4 (Is (v.List 0)) (under 7 6 7 2 1)) (lent_at 14) is not 19)
-    ∷ (asked abandons (vm 3 4 Nothing (under 7 6 1 2 1)) (lent_at 14) is not 19)
-    ∷ (asked abandons (vm 1 2 (Is (v.List 0)) (under 7 6 1 4 1)) (lent_at 14) is not 19)
-    ∷ (asked abandons (vm 3 4 (Is (v.List 0)) (under 7 6 1 3 1)) (lent_at 14) is not 19)
+    ∷ (asked abandons (vm 3 4 (Some (v.List 0)) (under 5 6 1 2 1)) (lent_at 14) is not 19)
+    ∷ (asked abandons (vm 3 4 (Some (v.List 0)) (under 7 6 7 2 1)) (lent_at 14) is not 19)
+    ∷ (asked abandons (vm 3 4 None (under 7 6 1 2 1)) (lent_at 14) is not 19)
+    ∷ (asked abandons (vm 1 2 (Some (v.List 0)) (under 7 6 1 4 1)) (lent_at 14) is not 19)
+    ∷ (asked abandons (vm 3 4 (Some (v.List 0)) (under 7 6 1 3 1)) (lent_at 14) is not 19)
     -- more values in the copy than the stack has places; one of no known kind, or one above the mark
-    ∷ (asked abandons (vm 3 4 (Is (v.List 0)) (under 7 6 1 2 5)) (lent_with (1 ∷ 1 ∷ 1 ∷ 1 ∷ 1 ∷ 1 ∷ 1 ∷ 1 ∷ 1 ∷ 1 ∷ []) (9 ∷ 9 ∷ 9 ∷ []) 14) is not 19)
+    ∷ (asked abandons (vm 3 4 (Some (v.List 0)) (under 7 6 1 2 5)) (lent_with (1 ∷ 1 ∷ 1 ∷ 1 ∷ 1 ∷ 1 ∷ 1 ∷ 1 ∷ 1 ∷ 1 ∷ []) (9 ∷ 9 ∷ 9 ∷ []) 14) is not 19)
     ∷ (asked abandons paused (lent_with (replicate 8 9) (9 ∷ 9 ∷ 9 ∷ []) 14) is not 19)
     ∷ (asked abandons paused (lent_with (4 ∷ 2 ∷ replicate 6 9) (9 ∷ 9 ∷ 9 ∷ []) 14) is not 19)
     -- a last result above the mark; a position at the end of the code
-    ∷ (asked abandons (vm 3 4 (Is (v.List 2)) (under 7 6 1 2 1)) (lent_at 14) is not 19)
+    ∷ (asked abandons (vm 3 4 (Some (v.List 2)) (under 7 6 1 2 1)) (lent_at 14) is not 19)
     ∷ (asked abandons paused (lent_at 16) is not 19)
     -- a frame that was entered at more units than are spent; one that was entered before its caller
     ∷ (asked abandons paused (lent_over saved (9 ∷ 9 ∷ 9 ∷ []) (main_at 14 7 ∷ [])) is not 19)
     ∷ (asked begins (vm_in 2) (lent_over (replicate 8 9) [] (main_at 1 9 ∷ main_at 16 8 ∷ [])) is not 19)
     -- the setting: 19, 25 even if it is what it is already, and then it is changed
-    ∷ (setting_of (set_strict true (vm 1 0 Nothing (record { on = false; given = 1; spent = 0; returns = 0; mark = 0; saved = 0 })) lent_stores (lent_at 0)) is not 19)
+    ∷ (setting_of (set_strict true (vm 1 0 None (record { on = false; given = 1; spent = 0; returns = 0; mark = 0; saved = 0 })) lent_stores (lent_at 0)) is not 19)
     ∷ (setting_of (set_strict false paused lent_stores (lent_at 14)) is not 25)
     ∷ (setting_of (set_strict true idle lent_stores (lent_at 0)) is setting true)
     ∷ (setting_of (set_strict false idle lent_stores (lent_at 0)) is setting false)
     -- a run goes by the machine's setting, and leaves it as it is; a machine is not strict as loaded
     ∷ (shown_as (multiplied true) [] []
-    is part (ends (record { reply = fault 26 (paid 3 0) (entry 0 6 0 ∷ []); machine = record { stack = []; frame = root 8; callers = []; heap = []; last = Nothing } })) [] [])
+    is part (ends (record { reply = fault 26 (paid 3 0) (entry 0 6 0 ∷ []); machine = record { stack = []; frame = root 8; callers = []; heap = []; last = None } })) [] [])
     ∷ (shown_as (multiplied false) [] []
-    is part (ends (record { reply = value (v.Scalar (Ieee.inf false)) (paid 4 1); machine = record { stack = []; frame = root 8; callers = []; heap = []; last = Is (v.Scalar (Ieee.inf false)) } })) [] [])
+    is part (ends (record { reply = value (v.Scalar (Ieee.inf false)) (paid 4 1); machine = record { stack = []; frame = root 8; callers = []; heap = []; last = Some (v.Scalar (Ieee.inf false)) } })) [] [])
     ∷ (setting_in (multiplied true) is setting true)
     ∷ (setting_in (multiplied false) is setting false)
     ∷ (started_setting (load_machine_of false p1_image empty_stores (replicate 1 (root 0))).answer is setting false)

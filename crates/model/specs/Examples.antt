@@ -1,13 +1,11 @@
 -- [examples] The examples to hold, P1 to P9: one table, one claim.
-use Rattle.std.specs.Prelude.{◌≡◌, refl, Bool, true, false, List, [], ◌∷◌, map, ℕ, suc, replicate}
+use Rattle.std.specs.Prelude.{◌≡◌, refl, Bool, true, false, List, [], ◌∷◌, map, ℕ, suc, replicate, None, Option, Some}
 use Rattle.std.specs.Int.Count.{count_trailing_zeros}
 use Rattle.std.specs.Float.Ieee as Ieee
 use Rattle.std.specs.Float.{binary64, inf}
 use Rattle.std.specs.Float.Ieee.{of_bits}
 use Rattle.model.specs.declared.Value.{Value}
 use Rattle.model.specs.declared.Value.TheVariants as v
-use Rattle.model.specs.declared.Last.{Last}
-use Rattle.model.specs.declared.Last.TheVariants.{Nothing, Is}
 use Rattle.model.specs.declared.Frame.{Frame}
 use Rattle.model.specs.declared.Tally.{Tally}
 use Rattle.model.specs.Basics.{ascii}
@@ -37,6 +35,7 @@ use Rattle.model.specs.Orders as orders
 use Rattle.model.specs.Loading as loading
 use Rattle.model.specs.Machines as machines
 use Rattle.model.specs.Reports as reports
+use Rattle.model.specs.declared.Refusal.TheVariants as why
 
 -- ---- what an example shows
 
@@ -46,7 +45,7 @@ pub data Shown : Type 0 where
   listed : Listed → Shown
   read : Step ℕ → Shown
   -- the reply, and the machine's stack, frames (innermost first) and last result
-  ran : Reply → List Value → List Frame → Last → Shown
+  ran : Reply → List Value → List Frame → Option Value → Shown
   traced : Traced → Shown
 
 -- what the rules give, and what they are said to give
@@ -178,7 +177,7 @@ unfoldable pub world : Program → World
 world p = world_for false p
 
 unfoldable pub loaded : Machine
-loaded = record { stack = []; frame = root 0; callers = []; heap = []; last = Nothing }
+loaded = record { stack = []; frame = root 0; callers = []; heap = []; last = None }
 
 unfoldable pub shown : Ran → Shown
 shown r = ran r.reply r.machine.stack (r.machine.frame ∷ r.machine.callers) r.machine.last
@@ -221,7 +220,7 @@ infix 4 ◌shows◌
 unfoldable pub examples : List Example
 examples =
     -- P1
-    (shown (run p1 1000000) shows ran (value (scalar_of n43) (did 4 1)) [] (frame 0 8 0 ∷ []) (Is (scalar_of n43)))
+    (shown (run p1 1000000) shows ran (value (scalar_of n43) (did 4 1)) [] (frame 0 8 0 ∷ []) (Some (scalar_of n43)))
     ∷ (bytes (image_of p1_flat) shows bytes p1_image)
     ∷ (judged (judge p1_image) shows judged (fine p1_flat))
     ∷ (listed (listing_of p1) shows listed (text p1_listing))
@@ -229,56 +228,56 @@ examples =
     ∷ (bytes (runner_text p1_image) shows bytes (ascii "value scalar 4045800000000000\nspent 4\nstack 0\n"))
     ∷ (bytes (lister_text p1_image) shows bytes p1_listing)
     -- P2: 3 units
-    ∷ (shown (run p1 3) shows ran (fault 13 (did 3 0) (entry 0 6 0 ∷ [])) [] (frame 0 8 0 ∷ []) Nothing)
+    ∷ (shown (run p1 3) shows ran (fault 13 (did 3 0) (entry 0 6 0 ∷ [])) [] (frame 0 8 0 ∷ []) None)
     -- P3
-    ∷ (shown (run p3 1000000) shows ran (fault 8 (did 3 0) (entry 0 6 0 ∷ [])) [] (frame 0 8 0 ∷ []) Nothing)
+    ∷ (shown (run p3 1000000) shows ran (fault 8 (did 3 0) (entry 0 6 0 ∷ [])) [] (frame 0 8 0 ∷ []) None)
     -- P4: the last result stays
-    ∷ (shown (run p4 1000000) shows ran (fault 8 (did 5 1) (entry 0 10 0 ∷ [])) [] (frame 0 12 0 ∷ []) (Is (scalar_of n1)))
+    ∷ (shown (run p4 1000000) shows ran (fault 8 (did 5 1) (entry 0 10 0 ∷ [])) [] (frame 0 12 0 ∷ []) (Some (scalar_of n1)))
     -- P4 with its units dealt out: the root Return of the first part counts
-    ∷ (shown (in_parts p4 loaded (2 ∷ 2 ∷ 1 ∷ [])) shows ran (fault 8 (did 5 1) (entry 0 10 0 ∷ [])) [] (frame 0 12 0 ∷ []) (Is (scalar_of n1)))
+    ∷ (shown (in_parts p4 loaded (2 ∷ 2 ∷ 1 ∷ [])) shows ran (fault 8 (did 5 1) (entry 0 10 0 ∷ [])) [] (frame 0 12 0 ∷ []) (Some (scalar_of n1)))
     -- P4 abandoned behind its root Return: that has counted, and its last result stays
-    ∷ (shown (in_parts p4 loaded (3 ∷ [])) shows ran (fault 13 (did 3 1) (entry 0 6 0 ∷ [])) [] (frame 0 12 0 ∷ []) (Is (scalar_of n1)))
+    ∷ (shown (in_parts p4 loaded (3 ∷ [])) shows ran (fault 13 (did 3 1) (entry 0 6 0 ∷ [])) [] (frame 0 12 0 ∷ []) (Some (scalar_of n1)))
     -- P1 begun again at its end: "continue", though there is a last result
-    ∷ (shown (in_parts p1 (run p1 1000000).machine []) shows ran (continue (did 0 0)) [] (frame 0 8 0 ∷ []) (Is (scalar_of n43)))
+    ∷ (shown (in_parts p1 (run p1 1000000).machine []) shows ran (continue (did 0 0)) [] (frame 0 8 0 ∷ []) (Some (scalar_of n43)))
     -- P5
-    ∷ (shown (run p5 1000000) shows ran (value (v.Boolean true) (did 10 1)) [] (frame 0 20 0 ∷ []) (Is (v.Boolean true)))
+    ∷ (shown (run p5 1000000) shows ran (value (v.Boolean true) (did 10 1)) [] (frame 0 20 0 ∷ []) (Some (v.Boolean true)))
     -- given up: with 6 units before Equal, which was not fetched; with 7 and 8 in Equal, whose two pairs they do not pay for
-    ∷ (shown (run p5 6) shows ran (fault 13 (did 6 0) (entry 0 17 0 ∷ [])) [] (frame 0 20 0 ∷ []) Nothing)
-    ∷ (shown (run p5 7) shows ran (fault 13 (did 7 0) (entry 0 18 0 ∷ [])) [] (frame 0 20 0 ∷ []) Nothing)
-    ∷ (shown (run p5 8) shows ran (fault 13 (did 8 0) (entry 0 18 0 ∷ [])) [] (frame 0 20 0 ∷ []) Nothing)
+    ∷ (shown (run p5 6) shows ran (fault 13 (did 6 0) (entry 0 17 0 ∷ [])) [] (frame 0 20 0 ∷ []) None)
+    ∷ (shown (run p5 7) shows ran (fault 13 (did 7 0) (entry 0 18 0 ∷ [])) [] (frame 0 20 0 ∷ []) None)
+    ∷ (shown (run p5 8) shows ran (fault 13 (did 8 0) (entry 0 18 0 ∷ [])) [] (frame 0 20 0 ∷ []) None)
     -- P5 with its 10 units dealt out, 0 among them: paused before Equal with 1 and 2 of its 3 units, and then it goes on
-    ∷ (shown (in_parts p5 loaded (6 ∷ 0 ∷ 1 ∷ 1 ∷ 1 ∷ 1 ∷ [])) shows ran (value (v.Boolean true) (did 10 1)) [] (frame 0 20 0 ∷ []) (Is (v.Boolean true)))
+    ∷ (shown (in_parts p5 loaded (6 ∷ 0 ∷ 1 ∷ 1 ∷ 1 ∷ 1 ∷ [])) shows ran (value (v.Boolean true) (did 10 1)) [] (frame 0 20 0 ∷ []) (Some (v.Boolean true)))
     -- abandoned with nothing given: fault 13, byte 0, nothing spent
-    ∷ (shown (in_parts p1 loaded []) shows ran (fault 13 (did 0 0) (entry 0 0 0 ∷ [])) [] (frame 0 8 0 ∷ []) Nothing)
+    ∷ (shown (in_parts p1 loaded []) shows ran (fault 13 (did 0 0) (entry 0 0 0 ∷ [])) [] (frame 0 8 0 ∷ []) None)
     -- P6: both runs; the second begins with the frames of the first, and their numbers are then 0
-    ∷ (shown (run p6 1000000) shows ran (continue (did 1 0)) [] (called 1 0 0 1 ∷ frame 0 5 0 ∷ []) Nothing)
-    ∷ (shown (again p6 1000000) shows ran (continue (did 0 0)) [] (frame 1 0 0 ∷ frame 0 5 0 ∷ []) Nothing)
+    ∷ (shown (run p6 1000000) shows ran (continue (did 1 0)) [] (called 1 0 0 1 ∷ frame 0 5 0 ∷ []) None)
+    ∷ (shown (again p6 1000000) shows ran (continue (did 0 0)) [] (frame 1 0 0 ∷ frame 0 5 0 ∷ []) None)
     -- begun at the end of its code it is over at once
-    ∷ (shown (in_parts p6 (run p6 1000000).machine []) shows ran (continue (did 0 0)) [] (frame 1 0 0 ∷ frame 0 5 0 ∷ []) Nothing)
+    ∷ (shown (in_parts p6 (run p6 1000000).machine []) shows ran (continue (did 0 0)) [] (frame 1 0 0 ∷ frame 0 5 0 ∷ []) None)
     -- P7: position 8, and the backtrace
-    ∷ (shown (run p7 1000000) shows ran (continue (did 1 0)) [] (frame 0 8 0 ∷ []) Nothing)
-    ∷ (traced (backtrace_of p7.functions ((run p7 1000000).machine.frame ∷ [])) shows traced (untraced 16))
+    ∷ (shown (run p7 1000000) shows ran (continue (did 1 0)) [] (frame 0 8 0 ∷ []) None)
+    ∷ (traced (backtrace_of p7.functions ((run p7 1000000).machine.frame ∷ [])) shows traced (untraced why.PlaceOutsideCode))
     -- P8
-    ∷ (shown (run p8 1000000) shows ran (value (scalar_of n43) (did 6 1)) [] (frame 0 12 0 ∷ []) (Is (scalar_of n43)))
+    ∷ (shown (run p8 1000000) shows ran (value (scalar_of n43) (did 6 1)) [] (frame 0 12 0 ∷ []) (Some (scalar_of n43)))
     -- the jump: 2 units complete no root Return, 4 complete one
-    ∷ (shown (run jumped 2) shows ran (fault 13 (did 2 0) (entry 0 4 0 ∷ [])) [] (frame 0 14 0 ∷ []) Nothing)
-    ∷ (shown (run jumped 4) shows ran (value (scalar_of n1) (did 4 1)) [] (frame 0 14 0 ∷ []) (Is (scalar_of n1)))
+    ∷ (shown (run jumped 2) shows ran (fault 13 (did 2 0) (entry 0 4 0 ∷ [])) [] (frame 0 14 0 ∷ []) None)
+    ∷ (shown (run jumped 4) shows ran (value (scalar_of n1) (did 4 1)) [] (frame 0 14 0 ∷ []) (Some (scalar_of n1)))
     -- when each call began: main calls f with its second unit, f calls g with its fifth, and g divides by zero; so too where the units are dealt out
-    ∷ (shown (run calling 1000000) shows ran (fault 8 (did 8 0) (entry 2 6 5 ∷ entry 1 10 2 ∷ entry 0 7 0 ∷ [])) [] (frame 0 8 0 ∷ []) Nothing)
-    ∷ (shown (in_parts calling loaded (1 ∷ 3 ∷ 0 ∷ 2 ∷ 9 ∷ [])) shows ran (fault 8 (did 8 0) (entry 2 6 5 ∷ entry 1 10 2 ∷ entry 0 7 0 ∷ [])) [] (frame 0 8 0 ∷ []) Nothing)
+    ∷ (shown (run calling 1000000) shows ran (fault 8 (did 8 0) (entry 2 6 5 ∷ entry 1 10 2 ∷ entry 0 7 0 ∷ [])) [] (frame 0 8 0 ∷ []) None)
+    ∷ (shown (in_parts calling loaded (1 ∷ 3 ∷ 0 ∷ 2 ∷ 9 ∷ [])) shows ran (fault 8 (did 8 0) (entry 2 6 5 ∷ entry 1 10 2 ∷ entry 0 7 0 ∷ [])) [] (frame 0 8 0 ∷ []) None)
     -- two large readings multiplied: infinity, and on a strict machine 26
-    ∷ (shown (run product 1000000) shows ran (value (v.Scalar (inf false)) (did 4 1)) [] (frame 0 8 0 ∷ []) (Is (v.Scalar (inf false))))
-    ∷ (shown (strictly product 1000000) shows ran (fault 26 (did 3 0) (entry 0 6 0 ∷ [])) [] (frame 0 8 0 ∷ []) Nothing)
+    ∷ (shown (run product 1000000) shows ran (value (v.Scalar (inf false)) (did 4 1)) [] (frame 0 8 0 ∷ []) (Some (v.Scalar (inf false))))
+    ∷ (shown (strictly product 1000000) shows ran (fault 26 (did 3 0) (entry 0 6 0 ∷ [])) [] (frame 0 8 0 ∷ []) None)
     -- so with the other three
-    ∷ (shown (strictly (calculating 0x08 large large) 1000000) shows ran (fault 26 (did 3 0) (entry 0 6 0 ∷ [])) [] (frame 0 8 0 ∷ []) Nothing)
-    ∷ (shown (strictly (calculating 0x09 minus_large large) 1000000) shows ran (fault 26 (did 3 0) (entry 0 6 0 ∷ [])) [] (frame 0 8 0 ∷ []) Nothing)
-    ∷ (shown (strictly (calculating 0x0B n1 least) 1000000) shows ran (fault 26 (did 3 0) (entry 0 6 0 ∷ [])) [] (frame 0 8 0 ∷ []) Nothing)
+    ∷ (shown (strictly (calculating 0x08 large large) 1000000) shows ran (fault 26 (did 3 0) (entry 0 6 0 ∷ [])) [] (frame 0 8 0 ∷ []) None)
+    ∷ (shown (strictly (calculating 0x09 minus_large large) 1000000) shows ran (fault 26 (did 3 0) (entry 0 6 0 ∷ [])) [] (frame 0 8 0 ∷ []) None)
+    ∷ (shown (strictly (calculating 0x0B n1 least) 1000000) shows ran (fault 26 (did 3 0) (entry 0 6 0 ∷ [])) [] (frame 0 8 0 ∷ []) None)
     -- an operand that was not finite before is no fault of the operation, on either side
-    ∷ (shown (strictly (calculating 0x08 infinite n1) 1000000) shows ran (value (v.Scalar (inf false)) (did 4 1)) [] (frame 0 8 0 ∷ []) (Is (v.Scalar (inf false))))
-    ∷ (shown (strictly (calculating 0x09 n1 infinite) 1000000) shows ran (value (v.Scalar (inf true)) (did 4 1)) [] (frame 0 8 0 ∷ []) (Is (v.Scalar (inf true))))
+    ∷ (shown (strictly (calculating 0x08 infinite n1) 1000000) shows ran (value (v.Scalar (inf false)) (did 4 1)) [] (frame 0 8 0 ∷ []) (Some (v.Scalar (inf false))))
+    ∷ (shown (strictly (calculating 0x09 n1 infinite) 1000000) shows ran (value (v.Scalar (inf true)) (did 4 1)) [] (frame 0 8 0 ∷ []) (Some (v.Scalar (inf true))))
     -- the zero divisor comes first; a strict machine that stays finite does as any
-    ∷ (shown (strictly p3 1000000) shows ran (fault 8 (did 3 0) (entry 0 6 0 ∷ [])) [] (frame 0 8 0 ∷ []) Nothing)
-    ∷ (shown (strictly p1 1000000) shows ran (value (scalar_of n43) (did 4 1)) [] (frame 0 8 0 ∷ []) (Is (scalar_of n43)))
+    ∷ (shown (strictly p3 1000000) shows ran (fault 8 (did 3 0) (entry 0 6 0 ∷ [])) [] (frame 0 8 0 ∷ []) None)
+    ∷ (shown (strictly p1 1000000) shows ran (value (scalar_of n43) (did 4 1)) [] (frame 0 8 0 ∷ []) (Some (scalar_of n43)))
     -- P9
     ∷ (bytes (digits 127) shows bytes (0x7F ∷ []))
     ∷ (bytes (digits 128) shows bytes (0x80 ∷ 0x01 ∷ []))

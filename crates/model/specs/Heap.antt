@@ -1,12 +1,10 @@
 -- The heap: a list of cells that only grows within a run.
-use Rattle.std.specs.Prelude.{Bool, true, false, ◌&&◌, List, [], ◌∷◌, ◌++◌, map, reverse, ℕ, zero, suc, ◌+◌, ◌*◌, ◌/◌, ◌%◌, max, eqb, leb, ltb, length, get_or, take, if◌then◌else◌}
+use Rattle.std.specs.Prelude.{Bool, true, false, ◌&&◌, List, [], ◌∷◌, ◌++◌, map, reverse, ℕ, zero, suc, ◌+◌, ◌*◌, ◌/◌, ◌%◌, max, eqb, leb, ltb, length, get_or, take, if◌then◌else◌, Err, Ok, Result}
 use Rattle.model.specs.declared.Value.{Value}
 use Rattle.model.specs.declared.Value.TheVariants as v
 use Rattle.model.specs.declared.Header.{Header}
 use Rattle.model.specs.declared.Fault.{Fault}
 use Rattle.model.specs.declared.Fault.TheVariants as f
-use Rattle.model.specs.declared.Found.{Found}
-use Rattle.model.specs.declared.Found.TheVariants as g
 use Rattle.model.specs.Values.{kind, payload, kind_at, payload_at, put_words, value_of, exact_value}
 
 -- [cells] a list or struct of n elements takes n + 1 cells: a header, and the elements
@@ -79,8 +77,8 @@ unfoldable pub elements_in : List Cell → ℕ → List Value
 elements_in H p = items (head_in H p).count (suc p) H
 
 -- [field] field number a of the struct whose header is at p
-unfoldable pub field_of : List Cell → ℕ → ℕ → Found
-field_of H p a = if ltb a (head_in H p).count then g.Got (item_in H (suc p + a)) else g.Bad f.OutOfRange
+unfoldable pub field_of : List Cell → ℕ → ℕ → Result Value Fault
+field_of H p a = if ltb a (head_in H p).count then Ok (item_in H (suc p + a)) else Err f.OutOfRange
 
 -- [depth] a plain value 0, a list or struct what its header says
 unfoldable pub depth_in : List Cell → Value → ℕ

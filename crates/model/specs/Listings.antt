@@ -5,6 +5,8 @@ use Rattle.model.specs.declared.Decoded.TheVariants as d
 use Rattle.model.specs.Basics.{ascii}
 use Rattle.model.specs.Opcodes.{operands}
 use Rattle.model.specs.Programs.{Function, Program, word_at, opcode_in, next_in}
+use Rattle.model.specs.declared.Refusal.{Refusal}
+use Rattle.model.specs.declared.Refusal.TheVariants as why
 
 -- n in decimal, f + 1 digits at most
 unfoldable pub decimal_for : ℕ → ℕ → List ℕ
@@ -40,20 +42,20 @@ header_line i name = ascii ".CODE " ++ decimal i ++ ascii " (" ++ name ++ ascii 
 -- the text; or a refusal, and the text of what stands before it
 pub data Listed : Type 0 where
   text : List ℕ → Listed
-  unlisted : List ℕ → ℕ → Listed
+  unlisted : List ℕ → Refusal → Listed
 
 unfoldable pub in_front : List ℕ → Listed → Listed
 in_front l (text r) = text (l ++ r)
-in_front l (unlisted r n) = unlisted (l ++ r) n
+in_front l (unlisted r e) = unlisted (l ++ r) e
 
 -- the line of an instruction that is all there, and the lines behind it; 3 where the code ends inside
 unfoldable pub known_then : (behind : ℕ → Listed) → (line : ℕ → List ℕ) → List ℕ → ℕ → Listed
-known_then k line code i = if leb (next_in code i) (length code) then in_front (line i) (k (next_in code i)) else unlisted [] 3
+known_then k line code i = if leb (next_in code i) (length code) then in_front (line i) (k (next_in code i)) else unlisted [] why.CodeEnds
 
 unfoldable pub opcode_then : (behind : ℕ → Listed) → (line : ℕ → List ℕ) → List ℕ → ℕ → Decoded → Listed
 opcode_then k line code i (d.Carried p) = known_then k line code i
 opcode_then k line code i d.NotCarried = known_then k line code i
-opcode_then k line code i d.Unknown = unlisted [] 1
+opcode_then k line code i d.Unknown = unlisted [] why.UnknownOpcode
 
 unfoldable pub line_then : (behind : ℕ → Listed) → (line : ℕ → List ℕ) → List ℕ → ℕ → Bool → Listed
 line_then k line code i true = opcode_then k line code i (opcode_in code i).what
@@ -70,7 +72,7 @@ code_lines code = lines_for (line_of code) (length code) code 0
 
 unfoldable pub and_listed : Listed → Listed → Listed
 and_listed (text l) r = in_front l r
-and_listed (unlisted l n) r = unlisted l n
+and_listed (unlisted l e) r = unlisted l e
 
 -- function i and those after it
 unfoldable pub listing_from : ℕ → List Function → Listed

@@ -1,10 +1,6 @@
 -- [loading] Loading an image, saving a program, and writing its listing: what comes back, and what the stores then hold.
-use Rattle.std.specs.Prelude.{Bool, ◌&&◌, List, [], ◌∷◌, ◌++◌, ℕ, ◌+◌, leb, length, drop, if◌then◌else◌}
+use Rattle.std.specs.Prelude.{Bool, ◌&&◌, List, [], ◌∷◌, ◌++◌, ℕ, ◌+◌, leb, length, drop, if◌then◌else◌, Err, Ok, Result}
 use Rattle.model.specs.declared.Counts.{Counts}
-use Rattle.model.specs.declared.Loaded.{Loaded}
-use Rattle.model.specs.declared.Loaded.TheVariants as l
-use Rattle.model.specs.declared.Told.{Told}
-use Rattle.model.specs.declared.Told.TheVariants as t
 use Rattle.model.specs.Values.{places, bit}
 use Rattle.model.specs.Programs.{Constant, scalar, boolean, string, reference, Function, Program, function_at, order_of, within_limits}
 use Rattle.model.specs.Images.{joined, image_of, Judged, fine, broken, judge}
@@ -12,6 +8,8 @@ use Rattle.model.specs.Listings.{Listed, text, unlisted, listing_of}
 use Rattle.model.specs.Stores.{Stores, pack, program_in}
 use Rattle.model.specs.Orders.{program_ok, lists, judged_by}
 use Rattle.model.specs.Emission.{written, counts}
+use Rattle.model.specs.declared.Refusal.{Refusal}
+use Rattle.model.specs.declared.Refusal.TheVariants as why
 
 -- ---- [layout] where a loaded program lies: its texts in the image's order, each store filled from its start
 
@@ -93,15 +91,15 @@ room_for p s =
 -- ---- [loading] the whole image is judged first: 20, then 22, then 21, then it is written
 
 pub record LoadRes : Type 0 where
-  pub answer : Loaded
+  pub answer : Result Counts Refusal
   pub stores : Stores
 
 unfoldable pub load_judged : Judged → Stores → LoadRes
-load_judged (broken i) s = record { answer = l.Broken i; stores = s }
+load_judged (broken i) s = record { answer = Err (why.BrokenImage i); stores = s }
 load_judged (fine p) s =
     if within_limits p then
-    (if room_for p s then record { answer = l.Done (counts_for p); stores = laid p s } else record { answer = l.Refused 21; stores = s })
-    else record { answer = l.Refused 22; stores = s }
+    (if room_for p s then record { answer = Ok (counts_for p); stores = laid p s } else record { answer = Err why.StoreFull; stores = s })
+    else record { answer = Err why.OverLimit; stores = s }
 
 unfoldable pub load_of : List ℕ → Stores → LoadRes
 load_of image s = load_judged (judge image) s
@@ -109,25 +107,25 @@ load_of image s = load_judged (judge image) s
 -- ---- [saving] and [listing] into a lent store: 19, the listing's 1 or 3, then 17; a refusal writes nothing
 
 pub record OutRes : Type 0 where
-  pub answer : Told
+  pub answer : Result ℕ Refusal
   pub out : List ℕ
 
 unfoldable pub put_out : List ℕ → List ℕ → OutRes
-put_out bytes out = if leb (length bytes) (places 1 out) then record { answer = t.Number (length bytes); out = written out 0 bytes } else record { answer = t.Refused 17; out = out }
+put_out bytes out = if leb (length bytes) (places 1 out) then record { answer = Ok (length bytes); out = written out 0 bytes } else record { answer = Err why.ResultTooShort; out = out }
 
 unfoldable pub save_of : Counts → Stores → List ℕ → OutRes
-save_of c s out = if program_ok c s then put_out (image_of (program_in c s)) out else record { answer = t.Refused 19; out = out }
+save_of c s out = if program_ok c s then put_out (image_of (program_in c s)) out else record { answer = Err why.NotInOrder; out = out }
 
 unfoldable pub put_listing : Listed → List ℕ → OutRes
 put_listing (text bytes) out = put_out bytes out
-put_listing (unlisted before n) out = record { answer = t.Refused n; out = out }
+put_listing (unlisted before e) out = record { answer = Err e; out = out }
 
 -- the listing is lent functions, text and code
 unfoldable pub list_order : Counts → Stores → Bool
 list_order c s = judged_by lists c s
 
 unfoldable pub list_of : Counts → Stores → List ℕ → OutRes
-list_of c s out = if list_order c s then put_listing (listing_of (program_in c s)) out else record { answer = t.Refused 19; out = out }
+list_of c s out = if list_order c s then put_listing (listing_of (program_in c s)) out else record { answer = Err why.NotInOrder; out = out }
 
 -- all that an example computes with here
 unfoldable pub computes : Type 1

@@ -1,22 +1,10 @@
 -- [parts] The entries of a machine, over what a host lends: a run in parts, the backtrace, and making a machine.
-use Rattle.std.specs.Prelude.{◌≡◌, Bool, true, false, ◌&&◌, ◌||◌, List, [], ◌∷◌, reverse, ℕ, zero, suc, ◌+◌, ◌-◌, ◌*◌, min, ltb, leb, eqb, length, get_or, take, if◌then◌else◌}
+use Rattle.std.specs.Prelude.{◌≡◌, Bool, true, false, ◌&&◌, ◌||◌, List, [], ◌∷◌, reverse, ℕ, zero, suc, ◌+◌, ◌-◌, ◌*◌, min, ltb, leb, eqb, length, get_or, take, if◌then◌else◌, Err, None, Ok, Option, Result, Some}
 use Rattle.model.specs.declared.Counts.{Counts}
 use Rattle.model.specs.declared.Run.{Run}
 use Rattle.model.specs.declared.Vm.{Vm}
-use Rattle.model.specs.declared.RunResult.{RunResult}
-use Rattle.model.specs.declared.RunResult.TheVariants as r
+use Rattle.model.specs.declared.Halt.TheVariants as r
 use Rattle.model.specs.declared.Frame.{Frame}
-use Rattle.model.specs.declared.Last.{Last}
-use Rattle.model.specs.declared.Last.TheVariants.{Nothing, Is}
-use Rattle.model.specs.declared.Emitted.{Emitted}
-use Rattle.model.specs.declared.Emitted.TheVariants as e
-use Rattle.model.specs.declared.Loaded.{Loaded}
-use Rattle.model.specs.declared.Loaded.TheVariants as l
-use Rattle.model.specs.declared.Told.TheVariants as t
-use Rattle.model.specs.declared.Changed.{Changed}
-use Rattle.model.specs.declared.Changed.TheVariants as ch
-use Rattle.model.specs.declared.Started.{Started}
-use Rattle.model.specs.declared.Started.TheVariants as st
 use Rattle.model.specs.Values.{places, most_places, vals}
 use Rattle.model.specs.Heap.{heap_of}
 use Rattle.model.specs.Programs.{function_at}
@@ -26,6 +14,11 @@ use Rattle.model.specs.Stores.{Stores, world_in, functions_from}
 use Rattle.model.specs.Orders.{traces, judged_by, program_ok, cells_ok, stack_ok, last_ok, frame_store_ok}
 use Rattle.model.specs.Emission.{written, new_of}
 use Rattle.model.specs.Loading.{OutRes, load_of}
+use Rattle.model.specs.declared.Halt.{Halt}
+use Rattle.model.specs.declared.Refusal.{Refusal}
+use Rattle.model.specs.declared.Value.{Value}
+use Rattle.model.specs.declared.Refusal.TheVariants as why
+use Rattle.model.specs.Answers.{refusal_number}
 
 -- what a host lends a machine besides the program's stores
 pub record Lent : Type 0 where
@@ -62,7 +55,7 @@ world_of m s l = world_in m.program s (places 2 l.stack) (frame_room l.frames) (
 -- how far the run under way has come: the last result is that of its last root Return, if it had one
 unfoldable pub progress_in : Vm → Lent → Progress
 progress_in m l = record {
-  answer = if eqb m.run.returns 0 then Nothing else m.last;
+  answer = if eqb m.run.returns 0 then None else m.last;
   returns = m.run.returns;
   heap = heap_of m.run.mark l.cells;
   last = m.last;
@@ -87,9 +80,9 @@ machine_order m s l =
     && last_ok m.program.text (heap_of m.cells l.cells) m.last
     && frame_store_ok (functions_from m.program.functions 0 s) (places 2 l.stack) m.frames l.frames
 
-unfoldable pub some_last : Last → Bool
-some_last Nothing = false
-some_last (Is v) = true
+unfoldable pub some_last : Option Value → Bool
+some_last None = false
+some_last (Some v) = true
 
 -- [order.run] "the units spent be at most those given and the innermost position be below its code length"; what abandoning would leave, the copy's
 -- values, the last result and the cells of the mark, is in order; each root Return has spent a unit, and left a last result. The numbers of units at which
@@ -228,12 +221,12 @@ abbrev pub ended_as : Vm → Lent → Reply → RunAnswer
 ended_as m l y = ran (unchanged m) (ends (record { reply = y; machine = machine_in m l }))
 
 -- the part that a result stands for, in the stores as it left them
-unfoldable pub answer_in : (left : Lent) → RunResult → RunAnswer
-answer_in l (r.Value m v n) = ended_as m l (value v n)
-answer_in l (r.Continue m n) = ended_as m l (continue n)
-answer_in l (r.Fault m k n j) = ended_as m l (fault k n (entries_in j 0 l.backtrace))
-answer_in l (r.Paused m) = ran (unchanged m) (pauses (under_in m l))
-answer_in l (r.Refused n) = refused n
+unfoldable pub answer_in : (left : Lent) → Result Halt Refusal → RunAnswer
+answer_in l (Ok (r.Value m v n)) = ended_as m l (value v n)
+answer_in l (Ok (r.Continue m n)) = ended_as m l (continue n)
+answer_in l (Ok (r.Fault m k n j)) = ended_as m l (fault k n (entries_in j 0 l.backtrace))
+answer_in l (Ok (r.Paused m)) = ran (unchanged m) (pauses (under_in m l))
+answer_in l (Err e) = refused (refusal_number e)
 
 -- ---- the entries in full: the answer; copy and backtrace whole; a machine in good order, in stores as long as before; a refusal changes nothing
 
@@ -248,15 +241,15 @@ pub record Leaves (on : Bool) (m : Vm) (s : Stores) (l : Lent) : Type 0 where
   pub run : m.run.on ≡ on
 
 -- what a part leaves is in good order, and only a paused run is under way; a refusal leaves the stores as they were
-abbrev pub Left : Stores → (before : Lent) → RunResult → (after : Lent) → Type 0
-Left s l (r.Value m v n) l' = Leaves false m s l'
-Left s l (r.Continue m n) l' = Leaves false m s l'
-Left s l (r.Fault m k n j) l' = Leaves false m s l'
-Left s l (r.Paused m) l' = Leaves true m s l'
-Left s l (r.Refused n) l' = l' ≡ l
+abbrev pub Left : Stores → (before : Lent) → Result Halt Refusal → (after : Lent) → Type 0
+Left s l (Ok (r.Value m v n)) l' = Leaves false m s l'
+Left s l (Ok (r.Continue m n)) l' = Leaves false m s l'
+Left s l (Ok (r.Fault m k n j)) l' = Leaves false m s l'
+Left s l (Ok (r.Paused m)) l' = Leaves true m s l'
+Left s l (Err e) l' = l' ≡ l
 
 -- what a call of a run promises: s and l are the program and what was lent, r is what comes back, and l' what was lent as it then is
-pub record RunPost (c : RunCall) (m : Vm) (s : Stores) (l : Lent) (r : RunResult) (l' : Lent) : Type 0 where
+pub record RunPost (c : RunCall) (m : Vm) (s : Stores) (l : Lent) (r : Result Halt Refusal) (l' : Lent) : Type 0 where
   pub answer : answer_in l' r ≡ run_answer c m s l
   pub copy : l'.copy ≡ copy_after c m s l
   pub backtrace : l'.backtrace ≡ trace_after l (run_answer c m s l)
@@ -265,12 +258,12 @@ pub record RunPost (c : RunCall) (m : Vm) (s : Stores) (l : Lent) (r : RunResult
 
 -- ---- [strict] as an entry: 19, and "25, changing the setting with a run under way", to what it is already too
 
-unfoldable pub set_strict : (strict : Bool) → Vm → Stores → Lent → Changed
+unfoldable pub set_strict : (strict : Bool) → Vm → Stores → Lent → Result Vm Refusal
 set_strict b m s l =
     if run_order m s l then
-    (if m.run.on then ch.Refused 25 else
-    ch.Done (record { program = m.program; stack = m.stack; frames = m.frames; cells = m.cells; last = m.last; run = m.run; strict = b }))
-    else ch.Refused 19
+    (if m.run.on then Err why.RunUnderWay else
+    Ok (record { program = m.program; stack = m.stack; frames = m.frames; cells = m.cells; last = m.last; run = m.run; strict = b }))
+    else Err why.NotInOrder
 
 -- ---- [backtrace] as an entry: 19, 17 where a frame has no place in the lent store, 16
 
@@ -279,15 +272,15 @@ unfoldable pub trace_order : Vm → Stores → List ℕ → List Frame → Bool
 trace_order m s stack frames = judged_by traces m.program s && frame_store_ok (functions_from m.program.functions 0 s) (places 2 stack) m.frames frames
 
 unfoldable pub put_trace : Traced → List ℕ → OutRes
-put_trace (trace es) out = record { answer = t.Number (length es); out = written out 0 (entry_words es) }
-put_trace (untraced n) out = record { answer = t.Refused n; out = out }
+put_trace (trace es) out = record { answer = Ok (length es); out = written out 0 (entry_words es) }
+put_trace (untraced e) out = record { answer = Err e; out = out }
 
 unfoldable pub backtrace_in : Vm → Stores → List ℕ → List Frame → List ℕ → OutRes
 backtrace_in m s stack frames out =
     if trace_order m s stack frames then
-    (if ltb (places 3 out) m.frames then record { answer = t.Refused 17; out = out } else
+    (if ltb (places 3 out) m.frames then record { answer = Err why.ResultTooShort; out = out } else
     put_trace (backtrace_of (functions_from m.program.functions 0 s) (innermost m.frames frames ∷ callers_in m.frames frames)) out)
-    else record { answer = t.Refused 19; out = out }
+    else record { answer = Err why.NotInOrder; out = out }
 
 -- ---- [start] a machine that has not run: an empty stack, no last result, one frame: function 0, base 0, position 0, entered at 0; "not strict, as loaded"
 
@@ -295,31 +288,30 @@ abbrev pub no_run : Run
 no_run = record { on = false; given = 0; spent = 0; returns = 0; mark = 0; saved = 0 }
 
 unfoldable pub fresh : Counts → Vm
-fresh c = record { program = c; stack = 0; frames = 1; cells = 0; last = Nothing; run = no_run; strict = false }
+fresh c = record { program = c; stack = 0; frames = 1; cells = 0; last = None; run = no_run; strict = false }
 
 pub record StartRes : Type 0 where
-  pub answer : Started
+  pub answer : Result Vm Refusal
   pub stores : Stores
   pub frames : List Frame
 
 -- the frame is laid with the program; a frame store without a place is refused 21, and then nothing is written
-unfoldable pub start_with : Loaded → Stores → Stores → List Frame → StartRes
-start_with (l.Done c) s' s [] = record { answer = st.Refused 21; stores = s; frames = [] }
-start_with (l.Done c) s' s (r ∷ rs) = record { answer = st.Done (fresh c); stores = s'; frames = root 0 ∷ rs }
-start_with (l.Broken i) s' s rs = record { answer = st.Broken i; stores = s; frames = rs }
-start_with (l.Refused n) s' s rs = record { answer = st.Refused n; stores = s; frames = rs }
+unfoldable pub start_with : Result Counts Refusal → Stores → Stores → List Frame → StartRes
+start_with (Ok c) s' s [] = record { answer = Err why.StoreFull; stores = s; frames = [] }
+start_with (Ok c) s' s (r ∷ rs) = record { answer = Ok (fresh c); stores = s'; frames = root 0 ∷ rs }
+start_with (Err e) s' s rs = record { answer = Err e; stores = s; frames = rs }
 
 -- "loading: 25 first": a machine with a run under way is not loaded over
 unfoldable pub unless_running : (running : Bool) → Stores → List Frame → StartRes → StartRes
-unless_running true s rs x = record { answer = st.Refused 25; stores = s; frames = rs }
+unless_running true s rs x = record { answer = Err why.RunUnderWay; stores = s; frames = rs }
 unless_running false s rs x = x
 
 unfoldable pub load_machine_of : (running : Bool) → List ℕ → Stores → List Frame → StartRes
 load_machine_of running image s rs = unless_running running s rs (start_with (load_of image s).answer (load_of image s).stores s rs)
 
-unfoldable pub as_loaded : Emitted → Loaded
-as_loaded (e.Done c n) = l.Done c
-as_loaded (e.Refused n) = l.Refused n
+unfoldable pub as_loaded : Result (Counts × ℕ) Refusal → Result Counts Refusal
+as_loaded (Ok (c, n)) = Ok c
+as_loaded (Err e) = Err e
 
 unfoldable pub new_machine_of : (running : Bool) → Stores → List Frame → StartRes
 new_machine_of running s rs = unless_running running s rs (start_with (as_loaded (new_of s).answer) (new_of s).stores s rs)

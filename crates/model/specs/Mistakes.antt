@@ -1,13 +1,11 @@
 -- [examples] Mistakes that invite themselves, and others: for each a program whose answer shows it. One table, one claim; the answers are the oracle's.
-use Rattle.std.specs.Prelude.{◌≡◌, refl, true, false, List, [], ◌∷◌, ◌++◌, map, ℕ, zero, suc}
+use Rattle.std.specs.Prelude.{◌≡◌, refl, true, false, List, [], ◌∷◌, ◌++◌, map, ℕ, zero, suc, None, Option, Some}
 use Rattle.std.specs.Int.Count.{count_trailing_zeros}
 use Rattle.std.specs.Float.Ieee as Ieee
 use Rattle.std.specs.Float.{binary64}
 use Rattle.std.specs.Float.Ieee.{of_bits}
 use Rattle.model.specs.declared.Value.{Value}
 use Rattle.model.specs.declared.Value.TheVariants as v
-use Rattle.model.specs.declared.Last.{Last}
-use Rattle.model.specs.declared.Last.TheVariants.{Nothing, Is}
 use Rattle.model.specs.Basics.{ascii}
 use Rattle.model.specs.Programs.{scalar, boolean, reference, Function, Program, main_name}
 use Rattle.model.specs.Trees.{Tree, meaning, list as treeList, none, more, scalar as treeScalar}
@@ -89,9 +87,9 @@ runs main others = run_of (world (with_others main others)) loaded 1000
 unfoldable pub shows : List ℕ → List Function → Shown
 shows main others = ran (runs main others).reply (runs main others).machine.stack
 
-unfoldable pub last_tree : List ℕ → List Cell → Last → Tree
-last_tree t H Nothing = treeList none
-last_tree t H (Is x) = meaning t H x
+unfoldable pub last_tree : List ℕ → List Cell → Option Value → Tree
+last_tree t H None = treeList none
+last_tree t H (Some x) = meaning t H x
 
 unfoldable pub means_of : List ℕ → Shown
 means_of main = means (last_tree (world (with_others main [])).text (runs main []).machine.heap (runs main []).machine.last)

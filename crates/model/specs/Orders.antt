@@ -1,8 +1,6 @@
 -- [order] Good order, clause by clause, and which clauses each entry judges. A clause speaks of the counts and of the stores that it names.
-use Rattle.std.specs.Prelude.{Bool, true, false, ◌&&◌, ◌||◌, List, [], ◌∷◌, ℕ, zero, suc, ◌+◌, ◌-◌, min, ltb, leb, eqb, length, take, if◌then◌else◌}
+use Rattle.std.specs.Prelude.{Bool, true, false, ◌&&◌, ◌||◌, List, [], ◌∷◌, ℕ, zero, suc, ◌+◌, ◌-◌, min, ltb, leb, eqb, length, take, if◌then◌else◌, None, Option, Some}
 use Rattle.model.specs.declared.Counts.{Counts}
-use Rattle.model.specs.declared.Last.{Last}
-use Rattle.model.specs.declared.Last.TheVariants.{Nothing, Is}
 use Rattle.model.specs.declared.Frame.{Frame}
 use Rattle.model.specs.Basics.{every_from}
 use Rattle.model.specs.Values.{places, most_places, kind_at, payload_at, value_at, exact_value}
@@ -10,6 +8,7 @@ use Rattle.model.specs.Heap.{Cell, heap_of, heap_ok, exact_cells, placed_below}
 use Rattle.model.specs.Equality.{same_bytes}
 use Rattle.model.specs.Programs.{Function, function_at, main_name, before, code_limit, constant_limit, name_limit}
 use Rattle.model.specs.Stores.{Stores, start, size, part, struct_word, order_word, name_word, code_word, code_end}
+use Rattle.model.specs.declared.Value.{Value}
 
 -- ---- [order.program]
 
@@ -163,9 +162,9 @@ cells_ok t n cells = leb n (places 2 cells) && exact_cells n 0 cells && heap_ok 
 unfoldable pub stack_ok : ℕ → List Cell → ℕ → List ℕ → Bool
 stack_ok t H n stack = leb n (places 2 stack) && every_from n 0 (λ i. exact_value (kind_at stack i) (payload_at stack i) && placed_below t H (length H) (value_at stack i))
 
-unfoldable pub last_ok : ℕ → List Cell → Last → Bool
-last_ok t H Nothing = true
-last_ok t H (Is v) = placed_below t H (length H) v
+unfoldable pub last_ok : ℕ → List Cell → Option Value → Bool
+last_ok t H None = true
+last_ok t H (Some v) = placed_below t H (length H) v
 
 -- a known function, a base within the stack store, a position of at most 131,070
 unfoldable pub frame_ok : List Function → ℕ → Frame → Bool

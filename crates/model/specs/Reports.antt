@@ -1,5 +1,5 @@
 -- [programs] What the runner and the lister print.
-use Rattle.std.specs.Prelude.{Bool, true, false, List, [], ◌∷◌, ◌++◌, ℕ, zero, suc, ◌+◌, ◌/◌, ◌%◌, ltb, eqb, length, replicate, if◌then◌else◌}
+use Rattle.std.specs.Prelude.{Bool, true, false, List, [], ◌∷◌, ◌++◌, ℕ, zero, suc, ◌+◌, ◌/◌, ◌%◌, ltb, eqb, length, replicate, if◌then◌else◌, Err, Ok, Result}
 use Rattle.std.specs.Float.{binary64}
 use Rattle.std.specs.Float.Ieee.{to_bits}
 use Rattle.model.specs.declared.Frame.{Frame}
@@ -7,18 +7,16 @@ use Rattle.model.specs.declared.Tally.{Tally}
 use Rattle.model.specs.declared.Vm.{Vm}
 use Rattle.model.specs.declared.Value.{Value}
 use Rattle.model.specs.declared.Value.TheVariants as v
-use Rattle.model.specs.declared.Loaded.{Loaded}
-use Rattle.model.specs.declared.Loaded.TheVariants as l
-use Rattle.model.specs.declared.Started.{Started}
-use Rattle.model.specs.declared.Started.TheVariants as st
 use Rattle.model.specs.Basics.{ascii}
 use Rattle.model.specs.Heap.{Cell, head_in}
-use Rattle.model.specs.Answers.{loaded_number, started_number}
+use Rattle.model.specs.Answers.{refusal_number}
 use Rattle.model.specs.Listings.{Listed, text, unlisted, decimal, listing_of}
 use Rattle.model.specs.Runs.{Machine, root, Entry, Reply, value, continue, fault, Ran, run_of}
 use Rattle.model.specs.Stores.{Stores, program_in}
 use Rattle.model.specs.Loading.{load_of}
 use Rattle.model.specs.Machines.{Lent, machine_in, world_of, run_refusal, StartRes, load_machine_of}
+use Rattle.model.specs.declared.Counts.{Counts}
+use Rattle.model.specs.declared.Refusal.{Refusal}
 
 -- ---- a value: `scalar` and 16 capital hex digits, `true`, `false`, `string N`, `function N`, `list N`, `struct S N`
 
@@ -86,10 +84,9 @@ empty_lent frames = record { stack = replicate 2048 0; cells = replicate 4096 0;
 
 -- ---- [runner] an image of at most 16,384 bytes, run with 1,000,000 units
 
-unfoldable pub started_text : Started → Stores → List Frame → List ℕ
-started_text (st.Done m) s frames = report_of m s (empty_lent frames) 1000000
-started_text (st.Broken i) s frames = refused_line (started_number (st.Broken i))
-started_text (st.Refused n) s frames = refused_line (started_number (st.Refused n))
+unfoldable pub started_text : Result Vm Refusal → Stores → List Frame → List ℕ
+started_text (Ok m) s frames = report_of m s (empty_lent frames) 1000000
+started_text (Err e) s frames = refused_line (refusal_number e)
 
 unfoldable pub started : StartRes → List ℕ
 started r = started_text r.answer r.stores r.frames
@@ -101,12 +98,11 @@ runner_text image = if ltb 16384 (length image) then refused_line 22 else starte
 
 unfoldable pub listed_text : Listed → List ℕ
 listed_text (text bytes) = bytes
-listed_text (unlisted before n) = refused_line n
+listed_text (unlisted before e) = refused_line (refusal_number e)
 
-unfoldable pub loaded_text : Loaded → Stores → List ℕ
-loaded_text (l.Done c) s = listed_text (listing_of (program_in c s))
-loaded_text (l.Broken i) s = refused_line (loaded_number (l.Broken i))
-loaded_text (l.Refused n) s = refused_line (loaded_number (l.Refused n))
+unfoldable pub loaded_text : Result Counts Refusal → Stores → List ℕ
+loaded_text (Ok c) s = listed_text (listing_of (program_in c s))
+loaded_text (Err e) s = refused_line (refusal_number e)
 
 unfoldable pub lister_text : List ℕ → List ℕ
 lister_text image = if ltb 16384 (length image) then refused_line 22 else loaded_text (load_of image empty_stores).answer (load_of image empty_stores).stores

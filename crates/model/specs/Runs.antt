@@ -1,8 +1,6 @@
 -- [run] A run with units, its answer, what a fault leaves, and the backtrace.
-use Rattle.std.specs.Prelude.{Bool, true, false, ◌&&◌, List, [], ◌∷◌, map, ℕ, zero, suc, ◌+◌, ◌-◌, ltb, leb, eqb, length, get_or, if◌then◌else◌}
+use Rattle.std.specs.Prelude.{Bool, true, false, ◌&&◌, List, [], ◌∷◌, map, ℕ, zero, suc, ◌+◌, ◌-◌, ltb, leb, eqb, length, get_or, if◌then◌else◌, None, Option, Some}
 use Rattle.model.specs.declared.Value.{Value}
-use Rattle.model.specs.declared.Last.{Last}
-use Rattle.model.specs.declared.Last.TheVariants.{Nothing, Is}
 use Rattle.model.specs.declared.Fault.{Fault}
 use Rattle.model.specs.declared.Frame.{Frame}
 use Rattle.model.specs.declared.Tally.{Tally}
@@ -10,6 +8,8 @@ use Rattle.model.specs.Values.{fault_number}
 use Rattle.model.specs.Heap.{Cell}
 use Rattle.model.specs.Programs.{Function, function_at}
 use Rattle.model.specs.Steps.{World, State, Outcome, went, returned, faulted, short, with_units, at, code_of, position, step_of}
+use Rattle.model.specs.declared.Refusal.{Refusal}
+use Rattle.model.specs.declared.Refusal.TheVariants as why
 
 -- a machine between runs. Slots past its counts are no part of it.
 pub record Machine : Type 0 where
@@ -17,7 +17,7 @@ pub record Machine : Type 0 where
   pub frame : Frame
   pub callers : List Frame
   pub heap : List Cell
-  pub last : Last
+  pub last : Option Value
 
 -- a machine as the state of a run that has spent so many units, and has so many left
 abbrev pub standing : Machine → (spent units : ℕ) → State
@@ -41,17 +41,17 @@ over w s = leb (length (code_of w s)) (position s)
 -- How far a run has come: the value of its last completed root Return, if there was one, and how many it completed; and [mark] what a fault goes back to:
 -- the cells and the last result of that Return, or of the run's start.
 pub record Progress : Type 0 where
-  pub answer : Last
+  pub answer : Option Value
   pub returns : ℕ
   pub heap : List Cell
-  pub last : Last
+  pub last : Option Value
 
 abbrev pub at_start : State → Progress
-at_start s = record { answer = Nothing; returns = 0; heap = s.heap; last = s.last }
+at_start s = record { answer = None; returns = 0; heap = s.heap; last = s.last }
 
 -- a root Return of the value v has completed, and left s
 abbrev pub counted : Value → Progress → State → Progress
-counted v p s = record { answer = Is v; returns = suc p.returns; heap = s.heap; last = s.last }
+counted v p s = record { answer = Some v; returns = suc p.returns; heap = s.heap; last = s.last }
 
 -- a run has ended, or a fault has stopped it; or it is paused before an instruction that its units do not pay for, as it then stands
 pub data Ended : Type 0 where
@@ -107,10 +107,10 @@ traceable fs (r ∷ rs) = ltb (r.position - 1) (length (function_at fs r.functio
 -- backtrace as an entry of its own
 pub data Traced : Type 0 where
   trace : List Entry → Traced
-  untraced : ℕ → Traced
+  untraced : Refusal → Traced
 
 unfoldable pub backtrace_of : List Function → List Frame → Traced
-backtrace_of fs rs = if traceable fs rs then trace (trace_of fs rs) else untraced 16
+backtrace_of fs rs = if traceable fs rs then trace (trace_of fs rs) else untraced why.PlaceOutsideCode
 
 -- ---- [recovery] the stack of the start, one frame at the end of main, the mark's cells and last result
 
@@ -135,9 +135,9 @@ abbrev pub tally : ℕ → Progress → Tally
 tally spent p = record { spent = spent; returns = p.returns }
 
 -- the value of its last root Return, or "continue" if it had none
-unfoldable pub answered : Last → Tally → Reply
-answered Nothing t = continue t
-answered (Is v) t = value v t
+unfoldable pub answered : Option Value → Tally → Reply
+answered None t = continue t
+answered (Some v) t = value v t
 
 -- ---- [parts] a run in parts: a beginning, which copies the stack; a continuing, which takes units; an abandoning
 

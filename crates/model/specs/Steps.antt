@@ -1,7 +1,7 @@
 -- [step] One step for each carried opcode, in the order of checks:
 -- units, 1, 2, 3, number operands, pops from the top, 7, field number, 14, argument count, zero divisor, 26, comparison units, 12, 11, frames, stack.
-use Rattle.std.specs.Prelude.{Bool, false, not, ◌&&◌, ◌||◌, List, [], ◌∷◌, ℕ, suc, ◌+◌, ◌-◌, ◌*◌, ltb, leb, eqb, length, get_or, drop, if◌then◌else◌}
-use Rattle.std.proofs.Math.Option.{Option, none, some}
+use Rattle.std.specs.Prelude.{Bool, false, not, ◌&&◌, ◌||◌, List, [], ◌∷◌, ℕ, suc, ◌+◌, ◌-◌, ◌*◌, ltb, leb, eqb, length, get_or, drop, if◌then◌else◌, Err, None, Ok, Option, Result, Some}
+use Rattle.std.proofs.Math.Option.{Option as Maybe, none, some}
 use Rattle.std.specs.Float.Ieee as Ieee
 use Rattle.model.specs.declared.Arith.{Arith}
 use Rattle.model.specs.declared.Order.{Order}
@@ -11,12 +11,8 @@ use Rattle.model.specs.declared.Decoded.{Decoded}
 use Rattle.model.specs.declared.Decoded.TheVariants as d
 use Rattle.model.specs.declared.Value.{Value}
 use Rattle.model.specs.declared.Value.TheVariants as v
-use Rattle.model.specs.declared.Last.{Last}
-use Rattle.model.specs.declared.Last.TheVariants.{Nothing, Is}
 use Rattle.model.specs.declared.Fault.{Fault}
 use Rattle.model.specs.declared.Fault.TheVariants as f
-use Rattle.model.specs.declared.Found.{Found}
-use Rattle.model.specs.declared.Found.TheVariants as g
 use Rattle.model.specs.declared.Frame.{Frame}
 use Rattle.model.specs.Opcodes.{Opcode, operands}
 use Rattle.model.specs.Values.{if_reference, if_struct, popping, popping_scalar, popping_boolean, text_at}
@@ -43,7 +39,7 @@ pub record State : Type 0 where
   pub frame : Frame
   pub callers : List Frame
   pub heap : List Cell
-  pub last : Last
+  pub last : Option Value
   pub spent : ℕ
   pub units : ℕ
 
@@ -65,7 +61,7 @@ abbrev pub with_heap : List Cell → State → State
 with_heap H s = record { stack = s.stack; frame = s.frame; callers = s.callers; heap = H; last = s.last; spent = s.spent; units = s.units }
 
 abbrev pub with_last : Value → State → State
-with_last v s = record { stack = s.stack; frame = s.frame; callers = s.callers; heap = s.heap; last = Is v; spent = s.spent; units = s.units }
+with_last v s = record { stack = s.stack; frame = s.frame; callers = s.callers; heap = s.heap; last = Some v; spent = s.spent; units = s.units }
 
 abbrev pub with_units : ℕ → State → State
 with_units u s = record { stack = s.stack; frame = s.frame; callers = s.callers; heap = s.heap; last = s.last; spent = s.spent; units = u }
@@ -92,22 +88,22 @@ code_of w s = (function_at w.functions s.frame.function).code
 unfoldable pub pushing : World → Value → State → Outcome
 pushing w v s = if ltb (length s.stack) w.stack_room then went (with_stack (v ∷ s.stack) s) else faulted f.StackFull s
 
-unfoldable pub on_found : Found → State → (Value → Outcome) → Outcome
-on_found (g.Got v) s k = k v
-on_found (g.Bad n) s k = faulted n s
+unfoldable pub on_found : Result Value Fault → State → (Value → Outcome) → Outcome
+on_found (Ok v) s k = k v
+on_found (Err f) s k = faulted f s
 
 -- ---- [load], [slot], [last]
 
-unfoldable pub constant_of : List Value → ℕ → Found
-constant_of cs a = if ltb a (length cs) then g.Got (get_or cs a (v.Boolean false)) else g.Bad f.OutOfRange
+unfoldable pub constant_of : List Value → ℕ → Result Value Fault
+constant_of cs a = if ltb a (length cs) then Ok (get_or cs a (v.Boolean false)) else Err f.OutOfRange
 
 -- the value in slot i, counted from the bottom of the stack
-unfoldable pub slot_of : List Value → ℕ → Found
-slot_of vs i = if ltb i (length vs) then g.Got (get_or vs (length vs - suc i) (v.Boolean false)) else g.Bad f.OutOfRange
+unfoldable pub slot_of : List Value → ℕ → Result Value Fault
+slot_of vs i = if ltb i (length vs) then Ok (get_or vs (length vs - suc i) (v.Boolean false)) else Err f.OutOfRange
 
-unfoldable pub last_of : Last → Found
-last_of Nothing = g.Bad f.NoLastResult
-last_of (Is v) = g.Got v
+unfoldable pub last_of : Option Value → Result Value Fault
+last_of None = Err f.NoLastResult
+last_of (Some v) = Ok v
 
 unfoldable pub load_step : World → (number : ℕ) → State → Outcome
 load_step w a s = on_found (constant_of w.constants a) s (λ v. pushing w v s)
@@ -177,7 +173,7 @@ enter w i n vs s =
 unfoldable pub call_step : World → (function count : ℕ) → State → Outcome
 call_step w i n s = if ltb i (length w.functions) then enter w i n s.stack s else faulted f.OutOfRange s
 
-unfoldable pub enter_named : World → (count : ℕ) → (rest : List Value) → State → Option ℕ → Outcome
+unfoldable pub enter_named : World → (count : ℕ) → (rest : List Value) → State → Maybe ℕ → Outcome
 enter_named w n vs s none = faulted f.NoFunction s
 enter_named w n vs s (some i) = enter w i n vs s
 

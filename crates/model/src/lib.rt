@@ -1,5 +1,8 @@
-// The machine's types. They hold no code: what they mean is in specs/, and the crates above work with them.
+// The machine's types, and the numbers that a host is told. What they mean is in specs/, and the crates above work with them.
 #![tactic(auto)]
+
+ghost use Rattle.std.specs.Prelude.{◌≡◌};
+ghost use Rattle.model.specs.Answers.{refusal_number, answer_number};
 
 // ---- [limits]
 
@@ -105,13 +108,6 @@ pub struct Header {
     pub depth: usize,
 }
 
-// The last result.
-#[derive(Clone, Copy)]
-pub enum Last {
-    Nothing,
-    Is(Value),
-}
-
 // Why a step faults. WrongKind holds the popped value. Units that do not reach are no fault of a step: it pauses the run.
 #[derive(Clone, Copy)]
 pub enum Fault {
@@ -131,11 +127,59 @@ pub enum Fault {
     NoFunction,
 }
 
-// A value that was popped, or read out of the constants or a struct; or the fault.
+// Why an entry refuses. The number of each is told by `refusal_number`; BrokenImage holds the offset of the first item that breaks a rule.
 #[derive(Clone, Copy)]
-pub enum Found {
-    Got(Value),
-    Bad(Fault),
+pub enum Refusal {
+    UnknownOpcode,
+    CodeEnds,
+    WrongKind,
+    NoSuchPlace,
+    NoLastResult,
+    NoFunction,
+    PlaceOutsideCode,
+    ResultTooShort,
+    NoRunUnderWay,
+    NotInOrder,
+    BrokenImage(usize),
+    StoreFull,
+    OverLimit,
+    PatchOutsideCode,
+    RunUnderWay,
+}
+
+impl Refusal {
+    // The number that a host is told.
+    pub fn number(self) -> u8
+        ensures { result ≡ refusal_number self }
+    {
+        match self {
+            Refusal::UnknownOpcode => 1,
+            Refusal::CodeEnds => 3,
+            Refusal::WrongKind => 5,
+            Refusal::NoSuchPlace => 6,
+            Refusal::NoLastResult => 7,
+            Refusal::NoFunction => 14,
+            Refusal::PlaceOutsideCode => 16,
+            Refusal::ResultTooShort => 17,
+            Refusal::NoRunUnderWay => 18,
+            Refusal::NotInOrder => 19,
+            Refusal::BrokenImage(_) => 20,
+            Refusal::StoreFull => 21,
+            Refusal::OverLimit => 22,
+            Refusal::PatchOutsideCode => 23,
+            Refusal::RunUnderWay => 25,
+        }
+    }
+}
+
+// The number that an answer comes back as, 0 where it is no refusal.
+pub fn answer_number<T: Copy>(answer: Result<T, Refusal>) -> u8
+    ensures { result ≡ answer_number answer }
+{
+    match answer {
+        Ok(_) => 0,
+        Err(why) => why.number(),
+    }
 }
 
 // A call frame; `entered` is how many units the run had spent when the frame was entered, the Call's own included. Its layout is C's, so that a host
@@ -168,31 +212,10 @@ pub struct Counts {
     pub current: usize,
 }
 
-// What an emission entry answers: the counts as they then are with the number of what was added or found (0 where there is none), or a refusal.
-#[derive(Clone, Copy)]
-pub enum Emitted {
-    Done(Counts, usize),
-    Refused(u8),
-}
-
-// What loading answers: the counts, or a refusal; Broken is refusal 20 with the offset of the first item that breaks a rule.
-#[derive(Clone, Copy)]
-pub enum Loaded {
-    Done(Counts),
-    Broken(usize),
-    Refused(u8),
-}
-
-// What an entry that only looks answers: a number, or a refusal.
-#[derive(Clone, Copy)]
-pub enum Told {
-    Number(usize),
-    Refused(u8),
-}
-
 // A run between its parts, if one is under way (`on`): the units that it was given in all and those that it has spent, the root Returns that it has
 // completed, how many cells were taken at the last of them, or at its start, and how many values stand in the copy of its starting stack. All zeros if
-// none is.
+// none is. `on` stays a flag, and the run no Option: a host may hand in a run that is not under way and not all zeros, and every call refuses it 19
+// (`idle`, `part_order`).
 #[derive(Clone, Copy)]
 pub struct Run {
     pub on: bool,
@@ -211,7 +234,7 @@ pub struct Vm {
     pub stack: usize,
     pub frames: usize,
     pub cells: usize,
-    pub last: Last,
+    pub last: Option<Value>,
     pub run: Run,
     pub strict: bool,
 }
@@ -223,42 +246,12 @@ pub struct Tally {
     pub returns: u64,
 }
 
-// What a part of a run answers, with the machine as it then is. The run is over, and this is what it did: a value, or "continue", or a fault's number
-// and the length of its backtrace. Or it is paused, and under way in the machine. Or a refusal.
+// Where a part of a run halts, with the machine as it then is. The run is over, and this is what it did: a value, or "continue", or a fault's number
+// and the length of its backtrace. Or it is paused, and under way in the machine.
 #[derive(Clone, Copy)]
-pub enum RunResult {
+pub enum Halt {
     Value(Vm, Value, Tally),
     Continue(Vm, Tally),
     Fault(Vm, u8, Tally, usize),
     Paused(Vm),
-    Refused(u8),
-}
-
-// What making a machine answers: the machine, or a refusal; Broken is refusal 20 with the offset of the first item that breaks a rule.
-#[derive(Clone, Copy)]
-pub enum Started {
-    Done(Vm),
-    Broken(usize),
-    Refused(u8),
-}
-
-// What changing the setting answers: the machine, or a refusal.
-#[derive(Clone, Copy)]
-pub enum Changed {
-    Done(Vm),
-    Refused(u8),
-}
-
-// What a reader answers: the header of a list or struct, or a refusal.
-#[derive(Clone, Copy)]
-pub enum Headed {
-    Is(Header),
-    Refused(u8),
-}
-
-// What a reader answers: a value, or a refusal.
-#[derive(Clone, Copy)]
-pub enum Shown {
-    Value(Value),
-    Refused(u8),
 }

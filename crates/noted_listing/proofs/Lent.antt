@@ -6,17 +6,19 @@ use native.Mathlib.Omega.{arith}
 use lib.ListN.{length}
 use borrow.Author.Tests.{eq-eqb, ne_eqb}
 use Rattle.model.specs.declared.Counts.{Counts}
-use Rattle.model.specs.declared.Told.{Told}
-use Rattle.model.specs.declared.Told.TheVariants.{Number, Refused}
 use Rattle.model.specs.Values.{kind_at, payload_at}
 use Rattle.model.specs.Listings.{Listed, header_line, in_front}
-use Rattle.model.specs.Stores.{Stores, part, struct_word, name_word, code_word, structs_from, function_in, functions_from, program_in}
+use Rattle.model.specs.Stores.{Stores, stores_of, part, struct_word, name_word, code_word, structs_from, function_in, functions_from, program_in}
 use Rattle.listing.specs.Links as l
 use Rattle.listing.proofs.Judging.{then}
 use Rattle.printing.specs.Links.{Put}
 use Rattle.notes.specs.Notes.{Known, known_of, noted_code}
-use Rattle.notes.specs.Links.{known_in, program_lent}
+use Rattle.layout.specs.Lent.{program_lent, stores_in}
+use Rattle.layout.specs.declared.lent.ProgramStores.{ProgramStores}
+use Rattle.notes.specs.Links.{known_in}
 use Rattle.noted_listing.specs.Links.{noted_function, places_in}
+use Rattle.std.specs.Prelude.{Err, Ok, Result}
+use Rattle.model.specs.declared.Refusal.{Refusal}
 
 -- a line takes 256 bytes at most for each byte of its instruction
 pub line_takes : (n : ℕ) → 256 ≤ 256 * (1 + 2 * n)
@@ -40,20 +42,21 @@ unfolding functions_from function_in name_word structs_from struct_word
 names_of zero i s = refl
 names_of (suc n) i s = ap (λ (l : List (List ℕ)). part s.text (kind_at s.functions i) ∷ l) (names_of n (suc i) s)
 
-pub known_is : (c : Counts) (cs ss fs t m mp o op : List ℕ) → known_of (program_in c (program_lent cs ss fs t m mp o op)) ≡ known_in c cs ss fs t
-unfolding known_of known_in program_in program_lent
-known_is c cs ss fs t m mp o op = rw (names_of c.functions 0 (program_lent cs ss fs t m mp o op))
+pub known_is : (c : Counts) (cs ss fs t m mp o op : List ℕ) → known_of (program_in c (stores_of cs ss fs t m mp o op)) ≡ known_in c cs ss fs t
+unfolding known_of known_in program_in
+known_is c cs ss fs t m mp o op = rw (names_of c.functions 0 (stores_of cs ss fs t m mp o op))
 
 -- ---- a function: its header, and its lines behind it
 
-roomier : {k : ℕ} {w : Listed} {s : List ℕ} {i : ℕ} {s' : List ℕ} (r : Told) → l.Listing k w s i s' r → (m : ℕ) → k ≤ m → l.Listing m w s i s' r
-roomier (Number r) h m g = let n = h.near in record { means = h.means; stored = h.stored; near = omega arith }
-roomier (Refused r) h m g = record { means = h.means; stored = h.stored; near = tt }
+roomier : {k : ℕ} {w : Listed} {s : List ℕ} {i : ℕ} {s' : List ℕ} (r : Result ℕ Refusal) → l.Listing k w s i s' r → (m : ℕ) → k ≤ m → l.Listing m w s i s' r
+roomier (Ok r) h m g = let n = h.near in record { means = h.means; stored = h.stored; near = omega arith }
+roomier (Err r) h m g = record { means = h.means; stored = h.stored; near = tt }
 
-module _ (known : Known) (cs ss fs t m mp o op : List ℕ) (i w : ℕ) (e : w ≡ kind_at fs i) (name code places : List ℕ) (a : name ≡ part t w)
-    (b : (rest : Stores) (u : List ℕ) → code ≡ (function_in (l.lent rest fs u m o) i).code) (d : places ≡ places_in fs mp op i) where
+module _ (known : Known) (s : ProgramStores) (i w : ℕ) (e : w ≡ kind_at s.functions.now i) (name code places : List ℕ) (a : name ≡ part s.text.now w)
+    (b : (rest : Stores) (u : List ℕ) → code ≡ (function_in (l.lent rest s.functions.now u s.main.now s.other.now) i).code)
+    (d : places ≡ places_in s.functions.now s.main_places.now s.other_places.now i) where
   abbrev all : Stores
-  all = program_lent cs ss fs t m mp o op
+  all = stores_in s
 
   name_is : name ≡ (function_in all i).name
   unfolding function_in name_word program_lent
@@ -61,15 +64,15 @@ module _ (known : Known) (cs ss fs t m mp o op : List ℕ) (i w : ℕ) (e : w �
 
   code_is : code ≡ (function_in all i).code
   unfolding function_in program_lent l.lent
-  code_is = b all t
+  code_is = b all s.text.now
 
   places_are : places ≡ (function_in all i).places
   unfolding function_in program_lent places_in
   places_are = d
 
-  pub function_is : length name < 2 ^ 32 → length code < 2 ^ 32 → {s : List ℕ} {at : ℕ} {s' : List ℕ} {j : ℕ} {u : List ℕ} (r : Told)
-      → Put (32 + length name) (header_line i name) s at s' j → l.Listing (256 * length code) (noted_code known code places) s' j u r
-      → l.Listing (2 ^ 41) (noted_function known i (function_in all i)) s at u r
-  function_is h k {s} {at} {u = u} r p q =
-      let whole : l.Listing (2 ^ 41) (in_front (header_line i name) (noted_code known code places)) s at u r = roomier r (then r p q) (2 ^ 41) (omega arith) in
+  pub function_is : length name < 2 ^ 32 → length code < 2 ^ 32 → {s₀ : List ℕ} {at : ℕ} {s₁ : List ℕ} {j : ℕ} {u : List ℕ} (r : Result ℕ Refusal)
+      → Put (32 + length name) (header_line i name) s₀ at s₁ j → l.Listing (256 * length code) (noted_code known code places) s₁ j u r
+      → l.Listing (2 ^ 41) (noted_function known i (function_in all i)) s₀ at u r
+  function_is h k {s₀} {at} {u = u} r p q =
+      let whole : l.Listing (2 ^ 41) (in_front (header_line i name) (noted_code known code places)) s₀ at u r = roomier r (then r p q) (2 ^ 41) (omega arith) in
       rw (name_is, code_is, places_are) at whole

@@ -2,9 +2,10 @@
 ghost use Rattle.std.specs.Prelude.{◌+◌, ◌*◌, ◌<◌, ◌^◌, length};
 ghost use Rattle.listing.specs.Links.{Listing};
 ghost use Rattle.notes.specs.Notes.{noted_code};
-ghost use Rattle.notes.specs.Links.{known_in};
+ghost use Rattle.notes.specs.Links.{known_from};
 
-use model::{Counts, Decoded, Told};
+use layout::lent::ProgramStores;
+use model::{Counts, Decoded, Refusal};
 use notes_lines::write_noted_line;
 use opcode::{decode, operands};
 
@@ -13,32 +14,28 @@ pub fn write_noted_lines(
     code: &[u8],
     places: &[u32],
     c: Counts,
-    constants: &[u64],
-    structs: &[u64],
-    functions: &[u64],
-    text: &[u8],
+    stores: &ProgramStores,
     out: &mut [u8],
     at: usize,
-) -> Told
+) -> Result<usize, Refusal>
     requires { (length code.now < 2 ^ 32) × (at + 256 * length code.now < 2 ^ 64) }
-    ensures { Listing (256 * length code.now) (noted_code (known_in c constants.now structs.now functions.now text.now) code.now places.now) out.old at out.new result }
+    ensures { Listing (256 * length code.now) (noted_code (known_from c stores.now) code.now places.now) out.old at out.new result }
 {
     let mut i = 0;
     let mut next = at;
+    // Each step is as long as its instruction, so this is no `for`.
     while i < code.len() {
         let b = code[i];
         if let Decoded::Unknown = decode(b) {
-            return Told::Refused(1);
+            return Err(Refusal::UnknownOpcode);
         }
         let n = operands(b);
         let left = (code.len() - i - 1) / 2;
         if left < n {
-            return Told::Refused(3);
+            return Err(Refusal::CodeEnds);
         }
-        next = write_noted_line(
-            code, places, i, c, constants, structs, functions, text, out, next,
-        );
+        next = write_noted_line(code, places, i, c, stores, out, next);
         i = i + 1 + 2 * n;
     }
-    Told::Number(next)
+    Ok(next)
 }

@@ -8,10 +8,9 @@ use native.Mathlib.Nat.{min-le_left}
 use lib.Dec.{ltb, leb}
 use lib.ListN.{length, get_or, take, length-append, length-take, length-map}
 use borrow.Author.Tests.{ltb-false}
-use Rattle.model.specs.declared.Loaded.{Loaded}
-use Rattle.model.specs.declared.Loaded.TheVariants as l
 use Rattle.model.specs.declared.Names.{Names}
 use Rattle.model.specs.declared.Names.TheVariants as n
+use Rattle.model.specs.Answers.{refusal_number}
 use Rattle.model.specs.Basics.{ascii}
 use Rattle.model.specs.Numbers.{Bytes}
 use Rattle.model.specs.Opcodes.{operands}
@@ -33,6 +32,9 @@ use Rattle.report.proofs.Fits.{long_image, code_in, functions_in, functions_shor
 use Rattle.report.proofs.Fits.{Within, within_front, within_and, within_more, line_short, lines_within}
 use Rattle.notes.specs.Notes.{shown_byte, shown_text, Known, known_of, constant_text, constant_at, name_at, note, operand_note, operand_notes, place_note, but_last}
 use Rattle.notes.specs.Notes.{noted_line, noted_code, noted_from, noted_listing, loaded_notes, noter_text}
+use Rattle.std.specs.Prelude.{Err, Ok, Result}
+use Rattle.model.specs.declared.Counts.{Counts}
+use Rattle.model.specs.declared.Refusal.{Refusal}
 
 -- ---- notes
 
@@ -126,9 +128,9 @@ listing_within known i (f ∷ fs) h g =
 -- ---- the text fits
 
 module _ (image : List ℕ) (bytes : Bytes image) where
-  loaded_fits : length image ≤ 16384 → (a : Loaded) (s : Stores) → load_of image empty_stores ≡ record { answer = a; stores = s } → length (loaded_notes a s) ≤ 1048576
+  loaded_fits : length image ≤ 16384 → (a : Result Counts Refusal) (s : Stores) → load_of image empty_stores ≡ record { answer = a; stores = s } → length (loaded_notes a s) ≤ 1048576
   unfolding loaded_notes noted_listing
-  loaded_fits h (l.Done c) s e =
+  loaded_fits h (Ok c) s e =
       let p = program_in c s in
       let o : image ≡ image_of p = (loaded_as image empty_stores s c bytes e).0 in
       let i : length (image_of p) ≡ length image = ap length (sym o) in
@@ -136,8 +138,7 @@ module _ (image : List ℕ) (bytes : Bytes image) where
       let whole = noted_from (known_of p) 0 p.functions in
       let z = listing_within (known_of p) 0 p.functions (functions_in p (subst Bytes o bytes)) (omega arith) in
       listed_short 1048576 (omega arith) whole (within_more whole _ 1048576 z (omega arith))
-  loaded_fits h (l.Broken i) s e = let z = refused_short 20 in omega arith
-  loaded_fits h (l.Refused n) s e = let z = refused_short n in omega arith
+  loaded_fits h (Err n) s e = let z = refused_short (refusal_number n) in omega arith
 
   pub noter_fits : length (noter_text image) ≤ 1048576
   unfolding noter_text

@@ -6,85 +6,37 @@ ghost use Rattle.model.specs.Stores.{program_in};
 ghost use Rattle.model.specs.Orders.{program_ok};
 ghost use Rattle.model.specs.Reports.{listed_text};
 ghost use Rattle.notes.specs.Notes.{noted_listing, loaded_notes, noter_text};
-ghost use Rattle.notes.specs.Links.{program_lent};
+ghost use Rattle.layout.specs.Lent.{stores_in};
 ghost use Rattle.report.specs.Links.{printed};
 ghost use Rattle.noted_report.specs.Links.{Notable};
 
 use image_load::load;
-use model::{Counts, Loaded, Told};
+use layout::lent::ProgramStores;
+use model::{Counts, Refusal};
 use noted_listing::list_with_notes;
 use report_lines::print_refused;
 
 // The listing with notes of a program in good order, or its refusal.
-fn note_program<'a>(
-    c: Counts,
-    constants: &[u64],
-    structs: &[u64],
-    functions: &[u64],
-    text: &[u8],
-    main: &'a [u8],
-    main_places: &'a [u32],
-    other: &'a [u8],
-    other_places: &'a [u32],
-    out: &mut [u8],
-) -> usize
-    requires { program_ok c (program_lent constants.now structs.now functions.now text.now main.now main_places.now other.now other_places.now) ≡ true }
-    ensures { record { count = result; out = out.new } ≡ printed (listed_text (noted_listing (program_in c (program_lent constants.now structs.now functions.now text.now main.now main_places.now other.now other_places.now)))) out.old }
+fn note_program(c: Counts, stores: &ProgramStores, out: &mut [u8]) -> usize
+    requires { program_ok c (stores_in stores.now) ≡ true }
+    ensures { record { count = result; out = out.new } ≡ printed (listed_text (noted_listing (program_in c (stores_in stores.now)))) out.old }
 {
-    let told = list_with_notes(
-        c,
-        constants,
-        structs,
-        functions,
-        text,
-        main,
-        main_places,
-        other,
-        other_places,
-        out,
-    );
-    match told {
-        Told::Number(n) => n,
-        Told::Refused(n) => {
-            if n == 17 {
-                return 0;
-            }
-            print_refused(n, out)
-        }
+    match list_with_notes(c, stores, out) {
+        Ok(n) => n,
+        Err(Refusal::ResultTooShort) => 0,
+        Err(why) => print_refused(why, out),
     }
 }
 
-// The listing with notes of what was loaded, or why nothing was.
-fn note_loaded<'a>(
-    loaded: Loaded,
-    constants: &[u64],
-    structs: &[u64],
-    functions: &[u64],
-    text: &[u8],
-    main: &'a [u8],
-    main_places: &'a [u32],
-    other: &'a [u8],
-    other_places: &'a [u32],
-    out: &mut [u8],
-) -> usize
-    requires { Notable loaded (program_lent constants.now structs.now functions.now text.now main.now main_places.now other.now other_places.now) }
-    ensures { record { count = result; out = out.new } ≡ printed (loaded_notes loaded (program_lent constants.now structs.now functions.now text.now main.now main_places.now other.now other_places.now)) out.old }
+// The listing with notes of what was loaded, or why nothing was. (As `run_loaded` of report: one function of both would take what prints as a closure, with
+// a law of what it writes, and be no plainer than a match.)
+fn note_loaded(loaded: Result<Counts, Refusal>, stores: &ProgramStores, out: &mut [u8]) -> usize
+    requires { Notable loaded (stores_in stores.now) }
+    ensures { record { count = result; out = out.new } ≡ printed (loaded_notes loaded (stores_in stores.now)) out.old }
 {
     match loaded {
-        Loaded::Done(c) => note_program(
-            c,
-            constants,
-            structs,
-            functions,
-            text,
-            main,
-            main_places,
-            other,
-            other_places,
-            out,
-        ),
-        Loaded::Broken(_) => print_refused(20, out),
-        Loaded::Refused(n) => print_refused(n, out),
+        Ok(c) => note_program(c, stores, out),
+        Err(why) => print_refused(why, out),
     }
 }
 
@@ -93,7 +45,7 @@ pub fn note_image(image: &[u8], out: &mut [u8]) -> usize
     ensures { record { count = result; out = out.new } ≡ printed (noter_text image.now) out.old }
 {
     if 16384 < image.len() {
-        return print_refused(22, out);
+        return print_refused(Refusal::OverLimit, out);
     }
     let mut constants = [0u64; 512];
     let mut structs = [0u64; 512];
@@ -114,16 +66,15 @@ pub fn note_image(image: &[u8], out: &mut [u8]) -> usize
         &mut other,
         &mut other_places,
     );
-    note_loaded(
-        loaded,
-        &constants,
-        &structs,
-        &functions,
-        &text,
-        &main,
-        &main_places,
-        &other,
-        &other_places,
-        out,
-    )
+    let stores = ProgramStores {
+        constants: &constants,
+        structs: &structs,
+        functions: &functions,
+        text: &text,
+        main: &main,
+        main_places: &main_places,
+        other: &other,
+        other_places: &other_places,
+    };
+    note_loaded(loaded, &stores, out)
 }

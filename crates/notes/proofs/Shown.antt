@@ -4,18 +4,16 @@ use mathlib.Core.Bool.{true, false, ◌&&◌}
 use mathlib.Core.List.{List, [], ◌∷◌, ◌++◌, map, append-nil}
 use Prim.Native.Nat.{ℕ, zero, suc, ◌+◌, ◌≤◌, ◌<◌, min}
 use native.Mathlib.Omega.{arith}
-use native.Mathlib.Nat.{min-le_right, min-eq_left, min_comm}
 use lib.Dec.{leb, ltb}
 use lib.ListN.{length, get_or, take, length-take, length-map, get_or-map, get_or-eq_default}
-use lib.Seq.{get_or-take}
+use lib.Seq.{take_all}
 use borrow.Author.Tests.{eq-eqb, ne_eqb, le-leb, lt-leb}
 use Rattle.model.specs.Basics.{ascii}
 use Rattle.model.specs.Values.{kind_at, payload_at}
 use Rattle.model.specs.Stores.{part, struct_word, constant_in, constants_from, structs_from}
 use Rattle.model.specs.Reports.{hex_for, boolean_text}
 use Rattle.printing.specs.Links.{Put}
-use Rattle.printing.proofs.Puts.{kept, is, within, both, Along, at_first, another, whole}
-use Rattle.printing.proofs.Digits.{by_lt}
+use Rattle.printing.proofs.Puts.{is, within, both, Along, another, whole}
 use Rattle.notes.specs.Notes.{shown_byte, shown_text, constant_text, constant_at, name_at}
 
 -- ---- a byte
@@ -30,58 +28,33 @@ other_byte b e = rw e
 
 -- ---- a text: n bytes of it are shown
 
-abbrev pub front : List ℕ → List ℕ
-front t = map shown_byte (take 24 t)
+abbrev pub front : ℕ → List ℕ → List ℕ
+front n t = map shown_byte (take n t)
 
-module _ (t : List ℕ) (n : ℕ) (e : n ≡ min (length t) 24) where
-  length_front : length (front t) ≡ n
-  length_front = length-map (take 24 t) shown_byte ∙ length-take 24 t ∙ min_comm _ _ ∙ sym e
+module _ (t : List ℕ) (n : ℕ) {s : List ℕ} {at : ℕ} {s' : List ℕ} {i r : ℕ} (h : Along (front n t) s at s' i r) where
+  pub one_shown : i < length (take n t) → {b : ℕ} → b ≡ shown_byte (get_or (take n t) i 0) → {u : List ℕ} {q : ℕ} → Put 1 (b ∷ []) s' r u q → Along (front n t) s at u (i + 1) q
+  one_shown g f p = another h _ (shown_byte 0) (f ∙ sym (get_or-map shown_byte (take n t) i 0)) (rw length-map g) p
 
-  at_most_24 : n ≤ 24
-  at_most_24 = let h = min-le_right (length t) 24 in omega arith
+  module _ (e : n ≡ min (length t) 24) (g : length (take n t) ≤ i) where
+    all_shown : Put (length (front n t)) (front n t) s at s' r
+    all_shown = whole h (rw length-map g)
 
-  cut_long : n < length t → 24 < length t
-  cut_long h = by_lt 24 (length t) (λ g. g) (λ g. absurd (let z = e ∙ min-eq_left g in let y : ⊥ = omega arith in y))
+    few : length (front n t) ≤ 24
+    few = let l : length (front n t) ≡ min n (length t) = length-map (take n t) shown_byte ∙ length-take n t in omega arith
 
-  byte_of_front : (i b : ℕ) → i < n → b ≡ shown_byte (get_or t i 0) → b ≡ get_or (front t) i (shown_byte 0)
-  byte_of_front i b h f =
-      let g : i < 24 = (let m = at_most_24 in omega arith) in
-      f ∙ sym (get_or-map shown_byte (take 24 t) i 0 ∙ ap shown_byte (get_or-take 24 t i 0 g))
+    pub whole_text : length t ≤ n → Put 26 (shown_text t) s at s' r
+    unfolding shown_text
+    whole_text k =
+        let l : length t ≤ 24 = omega arith in
+        let z : front n t ≡ front 24 t ++ [] = rw (take_all n t k, take_all 24 t l, append-nil) in
+        rw (le-leb _ _ l) (within (is all_shown z) 26 (let m = few in omega arith))
 
--- the first i of the n bytes were put
-pub record Showing (t : List ℕ) (n : ℕ) (s : List ℕ) (at : ℕ) (s' : List ℕ) (i r : ℕ) : Type 0 where
-  pub all : n ≡ length (front t)
-  pub few : n ≤ 24
-  pub along : Along (front t) s at s' i r
-
-pub none_shown : (t : List ℕ) (n : ℕ) → n ≡ min (length t) 24 → (s : List ℕ) (at : ℕ) → Showing t n s at s 0 at
-none_shown t n e s at = record { all = sym (length_front t n e); few = at_most_24 t n e; along = at_first _ s at }
-
-module _ {t : List ℕ} {n : ℕ} {s : List ℕ} {at : ℕ} {s' : List ℕ} {i r : ℕ} (h : Showing t n s at s' i r) where
-  pub one_shown : n ≡ min (length t) 24 → i < n → {b : ℕ} → b ≡ shown_byte (get_or t i 0) → {u : List ℕ} {q : ℕ} → Put 1 (b ∷ []) s' r u q → Showing t n s at u (i + 1) q
-  one_shown e g f p =
-      let l : i < length (front t) = (let a = h.all in omega arith) in
-      record { all = h.all; few = h.few; along = another h.along _ _ (byte_of_front t n e i _ g f) l p }
-
-  pub same_room : {k : ℕ} {l u : List ℕ} {q : ℕ} → Put k l s' r u q → length u ≡ length s
-  same_room p = kept p ∙ kept h.along.put
-
-  all_shown : n ≤ i → Put n (front t) s at s' r
-  all_shown g =
-      let l : length (front t) ≤ i = (let a = h.all in omega arith) in
-      rw h.all (whole h.along l)
-
-  pub whole_text : n ≤ i → length t ≤ n → Put 26 (shown_text t) s at s' r
-  unfolding shown_text
-  whole_text g k =
-      let few : length t ≤ 24 = (let m = h.few in omega arith) in
-      rw (le-leb _ _ few) (within (is (all_shown g) (sym (append-nil (front t)))) 26 (let m = h.few in omega arith))
-
-  pub cut_text : n ≡ min (length t) 24 → n ≤ i → n < length t → {u : List ℕ} {q : ℕ} → Put 2 (ascii "..") s' r u q → Put 26 (shown_text t) s at u q
-  unfolding shown_text
-  cut_text e g k q =
-      let many : 24 < length t = cut_long t n e k in
-      rw (lt-leb _ _ many) (within (both (all_shown g) q) 26 (let m = h.few in omega arith))
+    pub cut_text : n < length t → {u : List ℕ} {q : ℕ} → Put 2 (ascii "..") s' r u q → Put 26 (shown_text t) s at u q
+    unfolding shown_text
+    cut_text k q =
+        let l : 24 < length t = omega arith in
+        let z : n ≡ 24 = omega arith in
+        rw (lt-leb _ _ l) (within (both (is all_shown (ap (λ (m : ℕ). front m t) z)) q) 26 (let m = few in omega arith))
 
 pub part_is : (kind t : List ℕ) (w : ℕ) (b : List ℕ) → b ≡ part t w → {s₀ s₁ s₂ : List ℕ} {i₀ i₁ i₂ : ℕ}
     → Put (length kind) kind s₀ i₀ s₁ i₁ → Put 26 (shown_text b) s₁ i₁ s₂ i₂ → Put (length kind + 26) (kind ++ shown_text (part t w)) s₀ i₀ s₂ i₂

@@ -1,19 +1,18 @@
 -- [notes] The listing with notes: behind the operands of an instruction what they name, and its place.
-use Rattle.std.specs.Prelude.{◌&&◌, List, [], ◌∷◌, ◌++◌, map, ℕ, suc, ◌+◌, leb, ltb, length, get_or, take, if◌then◌else◌}
+use Rattle.std.specs.Prelude.{◌&&◌, List, [], ◌∷◌, ◌++◌, map, ℕ, suc, ◌+◌, leb, ltb, length, get_or, take, if◌then◌else◌, Err, Ok, Result}
 use Rattle.model.specs.declared.Counts.{Counts}
-use Rattle.model.specs.declared.Loaded.{Loaded}
-use Rattle.model.specs.declared.Loaded.TheVariants as l
 use Rattle.model.specs.declared.Names.{Names}
 use Rattle.model.specs.declared.Names.TheVariants as n
-use Rattle.model.specs.declared.Told.TheVariants as t
 use Rattle.model.specs.Basics.{ascii}
-use Rattle.model.specs.Answers.{loaded_number}
+use Rattle.model.specs.Answers.{refusal_number}
 use Rattle.model.specs.Programs.{Constant, scalar, boolean, string, reference, Function, Program, word_at, opcode_in, next_in}
 use Rattle.model.specs.Listings.{decimal, digits_or_more, line_of, header_line, Listed, text, in_front, lines_for, and_listed}
 use Rattle.model.specs.Stores.{Stores, program_in}
 use Rattle.model.specs.Orders.{program_ok}
 use Rattle.model.specs.Loading.{OutRes, put_listing, load_of}
 use Rattle.model.specs.Reports.{hex_for, boolean_text, refused_line, empty_stores, listed_text}
+use Rattle.model.specs.declared.Refusal.{Refusal}
+use Rattle.model.specs.declared.Refusal.TheVariants as why
 
 -- ---- texts and names
 
@@ -105,14 +104,13 @@ noted_listing p = noted_from (known_of p) 0 p.functions
 
 -- into a lent store: 19, since the notes read the whole program; the listing's 1 or 3, then 17; a refusal writes nothing
 unfoldable pub notes_of : Counts → Stores → List ℕ → OutRes
-notes_of c s out = if program_ok c s then put_listing (noted_listing (program_in c s)) out else record { answer = t.Refused 19; out = out }
+notes_of c s out = if program_ok c s then put_listing (noted_listing (program_in c s)) out else record { answer = Err why.NotInOrder; out = out }
 
 -- ---- [noter] as the lister: each function's lines in order, or `refused N` alone
 
-unfoldable pub loaded_notes : Loaded → Stores → List ℕ
-loaded_notes (l.Done c) s = listed_text (noted_listing (program_in c s))
-loaded_notes (l.Broken i) s = refused_line (loaded_number (l.Broken i))
-loaded_notes (l.Refused n) s = refused_line (loaded_number (l.Refused n))
+unfoldable pub loaded_notes : Result Counts Refusal → Stores → List ℕ
+loaded_notes (Ok c) s = listed_text (noted_listing (program_in c s))
+loaded_notes (Err e) s = refused_line (refusal_number e)
 
 unfoldable pub noter_text : List ℕ → List ℕ
 noter_text image = if ltb 16384 (length image) then refused_line 22 else loaded_notes (load_of image empty_stores).answer (load_of image empty_stores).stores

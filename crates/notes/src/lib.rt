@@ -6,7 +6,7 @@ ghost use Rattle.model.specs.Stores.{part, constant_in, constants_from, structs_
 ghost use Rattle.printing.specs.Links.{Put};
 ghost use Rattle.notes.specs.Notes.{shown_byte, shown_text, constant_text, constant_at, name_at};
 
-use layout::reads::{first, lesser, part, second};
+use layout::reads::{first, part, second};
 use printing::{put_byte, put_text, write_hex};
 
 // A byte that is no plain letter is shown as a dot.
@@ -24,12 +24,10 @@ fn put_shown(text: &[u8], out: &mut [u8], at: usize) -> usize
     requires { at + 26 < 2 ^ 64 }
     ensures { Put 26 (shown_text text.now) out.old at out.new result }
 {
-    let n = lesser(text.len(), 24);
-    let mut i = 0;
+    let n = text.len().min(24);
     let mut next = at;
-    while i < n {
-        next = put_byte(shown_byte(text[i]), out, next);
-        i += 1;
+    for b in &text[..n] {
+        next = put_byte(shown_byte(*b), out, next);
     }
     if n < text.len() {
         return put_text(b"..", out, next);
@@ -51,20 +49,16 @@ fn put_constant(kind: u64, payload: u64, text: &[u8], out: &mut [u8], at: usize)
     requires { at + 35 < 2 ^ 64 }
     ensures { Put 35 (constant_text (constant_in text.now kind payload)) out.old at out.new result }
 {
-    if kind == 0 {
-        let next = put_text(b"scalar ", out, at);
-        return write_hex(16, payload, out, next);
-    }
-    if kind == 1 {
-        if payload == 0 {
-            return put_text(b"false", out, at);
+    match kind {
+        0 => {
+            let next = put_text(b"scalar ", out, at);
+            write_hex(16, payload, out, next)
         }
-        return put_text(b"true", out, at);
+        1 if payload == 0 => put_text(b"false", out, at),
+        1 => put_text(b"true", out, at),
+        2 => put_part(b"string ", payload, text, out, at),
+        _ => put_part(b"function ", payload, text, out, at),
     }
-    if kind == 2 {
-        return put_part(b"string ", payload, text, out, at);
-    }
-    put_part(b"function ", payload, text, out, at)
 }
 
 // Constant k of n.

@@ -120,10 +120,6 @@ module _ (known : Known) (end : ℕ) (code : List ℕ) (i : ℕ) where
 
 -- ---- as the code reads them
 
-pub word_is : (code : List ℕ) (i a b : ℕ) → (a ≡ get_or code i 0) × (a < 256) → (b ≡ get_or code (i + 1) 0) × (b < 256) → (a + 256 * b ≡ word_at code i) × (a + 256 * b < 65536)
-unfolding word_at
-word_is code i a b e f = let z = add-one i in (rw (e.0, f.0, z), omega arith)
-
 pub end_is : (b : ℕ) → b < 256 → (i n : ℕ) → n ≡ operands (opcode_at b) → (i + 1 + 2 * n ≡ behind i (operands (opcode_at b))) × (i + 1 + 2 * n ≤ i + 7)
 end_is b h i n e = let few = at_most_3 b h in (rw (← e) (sym (behind_is i n)), omega arith)
 

@@ -8,9 +8,10 @@ ghost use Rattle.model.specs.Programs.{next_in};
 ghost use Rattle.model.specs.Listings.{line_of};
 ghost use Rattle.printing.specs.Links.{Put};
 ghost use Rattle.notes.specs.Notes.{place_note, noted_line};
-ghost use Rattle.notes.specs.Links.{known_in};
+ghost use Rattle.notes.specs.Links.{known_from};
 
 use crate::operands::note_operands;
+use layout::lent::ProgramStores;
 use listing::lines::write_line;
 use model::Counts;
 use printing::{put_byte, put_count};
@@ -19,10 +20,7 @@ use printing::{put_byte, put_count};
 fn place_at(places: &[u32], i: usize) -> u32
     ensures { result ≡ get_or places.now i 0 }
 {
-    if i < places.len() {
-        return places[i];
-    }
-    0
+    places.get(i).copied().unwrap_or(0)
 }
 
 // The place's note.
@@ -49,20 +47,15 @@ pub fn write_noted_line(
     places: &[u32],
     i: usize,
     c: Counts,
-    constants: &[u64],
-    structs: &[u64],
-    functions: &[u64],
-    text: &[u8],
+    stores: &ProgramStores,
     out: &mut [u8],
     at: usize,
 ) -> usize
     requires { (i < length code.now) × (next_in code.now i ≤ length code.now) × (length code.now < 2 ^ 32) × (at + 256 < 2 ^ 64) }
-    ensures { Put 256 (noted_line (known_in c constants.now structs.now functions.now text.now) code.now places.now i) out.old at out.new result }
+    ensures { Put 256 (noted_line (known_from c stores.now) code.now places.now i) out.old at out.new result }
 {
     let newline = put_listed(code, i, out, at);
-    let place = note_operands(
-        code, i, c, constants, structs, functions, text, out, newline,
-    );
+    let place = note_operands(code, i, c, stores, out, newline);
     let end = note_place(places, i, out, place);
     put_byte(b'\n', out, end)
 }

@@ -7,8 +7,9 @@ ghost use Rattle.model.specs.Listings.{digits_or_more};
 ghost use Rattle.model.specs.Stores.{constants_from, structs_from};
 ghost use Rattle.printing.specs.Links.{Put};
 ghost use Rattle.notes.specs.Notes.{constant_at, name_at, note, operand_note, operand_notes};
-ghost use Rattle.notes.specs.Links.{known_in};
+ghost use Rattle.notes.specs.Links.{known_from};
 
+use layout::lent::ProgramStores;
 use model::{Counts, Names};
 use notes::{put_constant_at, put_name_at};
 use opcode::{first_names, operands, second_names};
@@ -62,33 +63,43 @@ fn note_operand(
     k: usize,
     end: usize,
     c: Counts,
-    constants: &[u64],
-    structs: &[u64],
-    functions: &[u64],
-    text: &[u8],
+    stores: &ProgramStores,
     out: &mut [u8],
     at: usize,
 ) -> usize
     requires { (end + k < 2 ^ 64) × (at + 48 < 2 ^ 64) }
-    ensures { Put 48 (operand_note (known_in c constants.now structs.now functions.now text.now) end names k) out.old at out.new result }
+    ensures { Put 48 (operand_note (known_from c stores.now) end names k) out.old at out.new result }
 {
     match names {
-        Names::Constant => note_constant(c.constants, constants, text, k, out, at),
-        Names::Function => note_name(b"no function", c.functions, functions, text, k, out, at),
-        Names::Struct => note_name(b"no struct", c.structs, structs, text, k, out, at),
+        Names::Constant => note_constant(c.constants, stores.constants, stores.text, k, out, at),
+        Names::Function => note_name(
+            b"no function",
+            c.functions,
+            stores.functions,
+            stores.text,
+            k,
+            out,
+            at,
+        ),
+        Names::Struct => note_name(
+            b"no struct",
+            c.structs,
+            stores.structs,
+            stores.text,
+            k,
+            out,
+            at,
+        ),
         Names::Offset => note_target(end + k, out, at),
         Names::Slot | Names::Field | Names::Count | Names::Nothing => at,
     }
 }
 
 // The byte at i; past the code's end there is 0.
-fn byte_at(code: &[u8], i: usize) -> usize
-    ensures { (result ≡ get_or code.now i 0) × (result < 256) }
+fn byte_at(code: &[u8], i: usize) -> u8
+    ensures { result ≡ get_or code.now i 0 }
 {
-    if i < code.len() {
-        return code[i] as usize;
-    }
-    0
+    code.get(i).copied().unwrap_or(0)
 }
 
 // The operand at i, low byte first.
@@ -96,7 +107,7 @@ fn word_at(code: &[u8], i: usize) -> usize
     requires { i + 1 < 2 ^ 64 }
     ensures { (result ≡ word_at code.now i) × (result < 65536) }
 {
-    byte_at(code, i) + 256 * byte_at(code, i + 1)
+    usize::from(u16::from_le_bytes([byte_at(code, i), byte_at(code, i + 1)]))
 }
 
 // The position behind the instruction whose opcode b stands at i.
@@ -112,42 +123,17 @@ pub fn note_operands(
     code: &[u8],
     i: usize,
     c: Counts,
-    constants: &[u64],
-    structs: &[u64],
-    functions: &[u64],
-    text: &[u8],
+    stores: &ProgramStores,
     out: &mut [u8],
     at: usize,
 ) -> usize
     requires { (i < length code.now) × (length code.now < 2 ^ 32) × (at + 96 < 2 ^ 64) }
-    ensures { Put 96 (operand_notes (known_in c constants.now structs.now functions.now text.now) (next_in code.now i) (opcode_in code.now i).names code.now (suc i)) out.old at out.new result }
+    ensures { Put 96 (operand_notes (known_from c stores.now) (next_in code.now i) (opcode_in code.now i).names code.now (suc i)) out.old at out.new result }
 {
     let b = code[i];
     let end = end_of(b, i);
     let k = word_at(code, i + 1);
-    let next = note_operand(
-        first_names(b),
-        k,
-        end,
-        c,
-        constants,
-        structs,
-        functions,
-        text,
-        out,
-        at,
-    );
+    let next = note_operand(first_names(b), k, end, c, stores, out, at);
     let l = word_at(code, i + 3);
-    note_operand(
-        second_names(b),
-        l,
-        end,
-        c,
-        constants,
-        structs,
-        functions,
-        text,
-        out,
-        next,
-    )
+    note_operand(second_names(b), l, end, c, stores, out, next)
 }

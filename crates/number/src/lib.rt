@@ -5,44 +5,37 @@ ghost use Rattle.std.specs.Prelude.{◌≡◌, ◌+◌, ◌≤◌, length};
 ghost use Rattle.model.specs.Numbers.{digits};
 ghost use Rattle.number.specs.Links.{GroupsPost, NumPost, WritePost};
 
-// A number and the place behind it; or bytes that are no number in its shortest form.
-#[derive(Clone, Copy)]
-pub enum Num {
-    Number(u32, usize),
-    Broken,
-}
-
 // The groups that begin at place at: one, and at most left behind it.
-fn read_groups(src: &[u8], at: usize, left: u32) -> Num
+fn read_groups(src: &[u8], at: usize, left: u32) -> Option<(u32, usize)>
     requires { left ≤ 4 }
     ensures { GroupsPost left src.now at result }
 {
     if src.len() <= at {
-        return Num::Broken;
+        return None;
     }
-    let x = src[at] as u32;
+    let x = u32::from(src[at]);
     let behind = at + 1;
     if left == 0 {
         if x < 16 {
-            return Num::Number(x, behind);
+            return Some((x, behind));
         }
-        return Num::Broken;
+        return None;
     }
     if x < 128 {
-        return Num::Number(x, behind);
+        return Some((x, behind));
     }
     let others = read_groups(src, behind, left - 1);
-    let Num::Number(rest, next) = others else {
-        return Num::Broken;
+    let Some((rest, next)) = others else {
+        return None;
     };
     if 0 < rest {
-        return Num::Number(x - 128 + 128 * rest, next);
+        return Some((x - 128 + 128 * rest, next));
     }
-    Num::Broken
+    None
 }
 
 // The number that begins at place at.
-pub fn read_number(src: &[u8], at: usize) -> Num
+pub fn read_number(src: &[u8], at: usize) -> Option<(u32, usize)>
     ensures { NumPost src.now at result }
 {
     read_groups(src, at, 4)
@@ -66,10 +59,11 @@ pub fn write_number(out: &mut [u8], at: usize, n: u32) -> usize
 {
     let mut rest = n;
     let mut i = at;
+    // What is left of the number ends this, no count, so it is no `for`.
     while 128 <= rest {
         out[i] = (128 + rest % 128) as u8;
-        rest = rest / 128;
-        i = i + 1;
+        rest /= 128;
+        i += 1;
     }
     out[i] = rest as u8;
     i + 1

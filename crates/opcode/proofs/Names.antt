@@ -103,5 +103,5 @@ module _ (b i : ℕ) where
     pub at_letter : (x ≡ 32 → ⊥) → i + 1 ≤ length name
     at_letter z = let l : i < length name = goes_on_lem name i (λ w. z (e ∙ w)) in omega arith
 
-  pub full : i ≤ length name → 19 ≤ i → i ≡ length name
+  pub full : i ≤ length name → 19 ≤ i → 19 ≡ length name
   full h k = let l : length name ≤ 19 = short name good_name in omega arith

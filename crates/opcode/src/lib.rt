@@ -172,12 +172,9 @@ const NAMES: [u8; 722] = *b"\
 pub fn name_byte(b: u8, i: usize) -> u8
     ensures { result ≡ get_or (opcode_at b).name i 32 }
 {
-    let number = b as usize;
-    if 38 <= number {
-        return 32;
-    }
-    if 19 <= i {
-        return 32;
+    let number = usize::from(b);
+    if 38 <= number || 19 <= i {
+        return b' ';
     }
     NAMES[19 * number + i]
 }
@@ -186,13 +183,10 @@ pub fn name_byte(b: u8, i: usize) -> u8
 pub fn name_len(b: u8) -> usize
     ensures { result ≡ length (opcode_at b).name }
 {
-    let mut i = 0;
-    while i < 19 {
-        let letter = name_byte(b, i);
-        if letter == 32 {
+    for i in 0..19 {
+        if name_byte(b, i) == b' ' {
             return i;
         }
-        i = i + 1;
     }
-    i
+    19
 }

@@ -15,7 +15,6 @@ pub fn put_byte(b: u8, out: &mut [u8], at: usize) -> usize
 {
     if at < out.len() {
         out[at] = b;
-        return at + 1;
     }
     at + 1
 }
@@ -25,11 +24,9 @@ pub fn put_text(text: &[u8], out: &mut [u8], at: usize) -> usize
     requires { at + length text.now < 2 ^ 64 }
     ensures { Put (length text.now) text.now out.old at out.new result }
 {
-    let mut i = 0;
     let mut next = at;
-    while i < text.len() {
-        next = put_byte(text[i], out, next);
-        i += 1;
+    for b in text {
+        next = put_byte(*b, out, next);
     }
     next
 }

@@ -6,20 +6,21 @@ ghost use Rattle.model.specs.Emission.{names_from, told_name};
 ghost use Rattle.layout.specs.Links.{names_lent};
 
 use layout::reads::{first, part, same_bytes};
-use model::Told;
+use model::Refusal;
 
 // The newest of n functions that has the name, from the newest down.
-pub fn newest_function(n: usize, name: &[u8], functions: &[u64], text: &[u8]) -> Told
+pub fn newest_function(
+    n: usize,
+    name: &[u8],
+    functions: &[u64],
+    text: &[u8],
+) -> Result<usize, Refusal>
     ensures { (rest : Stores) → result ≡ told_name (newest_from 0 name.now (names_from n 0 (names_lent rest functions.now text.now))) }
 {
-    let mut left = n;
-    while 0 < left {
-        let i = left - 1;
-        let same = same_bytes(name, part(text, first(functions, i)));
-        if same {
-            return Told::Number(i);
+    for i in (0..n).rev() {
+        if same_bytes(name, part(text, first(functions, i))) {
+            return Ok(i);
         }
-        left = i;
     }
-    Told::Refused(14)
+    Err(Refusal::NoFunction)
 }

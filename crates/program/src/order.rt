@@ -4,9 +4,10 @@ ghost use Rattle.model.specs.Basics.{every_from};
 ghost use Rattle.model.specs.Values.{places};
 ghost use Rattle.model.specs.Stores.{struct_word, order_word};
 ghost use Rattle.model.specs.Programs.{before};
-ghost use Rattle.model.specs.Orders.{counts_ok, text_ok, inside_text, constant_ok, constants_ok, name_in_order, structs_ok, function_ok, functions_ok, main_ok, inside_codes};
-ghost use Rattle.layout.specs.Links.{WholeIs};
+ghost use Rattle.model.specs.Orders.{counts_ok, text_ok, inside_text, constant_ok, constants_ok, name_in_order, structs_ok, function_ok, functions_ok, main_ok, inside_codes, program_ok};
+ghost use Rattle.layout.specs.Lent.{stores_in};
 
+use layout::lent::ProgramStores;
 use layout::ordered::{before, in_order};
 use layout::reads::{
     code_end, code_start, first, index, part, room, same_bytes, second, size_of, start_of,
@@ -17,10 +18,7 @@ use model::{CODE_LIMIT, CONSTANT_LIMIT, Counts, MOST_PLACES, NAME_LIMIT};
 fn last_of(i: usize, n: usize) -> bool
     ensures { result ≡ eqb (suc i) n }
 {
-    if n == 0 {
-        return false;
-    }
-    i == n - 1
+    n != 0 && i == n - 1
 }
 
 // Counts within limits; the current function main or the newest.
@@ -53,16 +51,12 @@ pub fn inside_text(c: Counts, w: u64) -> bool
 pub fn constant_ok(c: Counts, kind: u64, payload: u64) -> bool
     ensures { result ≡ constant_ok c kind payload }
 {
-    if kind == 0 {
-        return true;
+    match kind {
+        0 => true,
+        1 => payload < 2,
+        2 | 3 => inside_text(c, payload),
+        _ => false,
     }
-    if kind == 1 {
-        return payload < 2;
-    }
-    if kind <= 3 {
-        return inside_text(c, payload);
-    }
-    false
 }
 
 // The constants lie in their store, each of one of the four kinds.
@@ -70,20 +64,15 @@ pub fn constants_ok(c: Counts, constants: &[u64]) -> bool
     ensures { result ≡ constants_ok c constants.now }
 {
     let n = c.constants;
-    if room(constants.len(), 2) < n {
-        return false;
-    }
-    let mut i = 0;
-    while i < n {
-        let kind = first(constants, i);
-        let payload = second(constants, i);
-        let ok = constant_ok(c, kind, payload);
-        if !ok {
-            return false;
-        }
-        i += 1;
-    }
-    true
+    n <= room(constants.len(), 2)
+        && (0..n).all(|i| constant_ok(c, first(constants, i), second(constants, i)))
+}
+
+// Struct i: its name inside the text, and a number of a struct in the order.
+fn struct_inside(c: Counts, structs: &[u64], i: usize) -> bool
+    ensures { result ≡ (inside_text c (struct_word structs.now i) && ltb (order_word structs.now i) c.structs) }
+{
+    inside_text(c, first(structs, i)) & (index(second(structs, i)) < c.structs)
 }
 
 // The struct names lie in their store and inside the text, and the numbers of their order are numbers of structs.
@@ -91,50 +80,26 @@ fn structs_inside(c: Counts, structs: &[u64]) -> bool
     ensures { result ≡ (leb c.structs (places 2 structs.now) && every_from c.structs 0 (λ i. inside_text c (struct_word structs.now i) && ltb (order_word structs.now i) c.structs)) }
 {
     let n = c.structs;
-    if room(structs.len(), 2) < n {
-        return false;
-    }
-    let mut i = 0;
-    while i < n {
-        let number = index(second(structs, i));
-        let ok = inside_text(c, first(structs, i)) & (number < n);
-        if !ok {
-            return false;
-        }
-        i += 1;
-    }
-    true
+    n <= room(structs.len(), 2) && (0..n).all(|i| struct_inside(c, structs, i))
 }
 
 // Whether each of n names in order is before the next.
 fn ascend(n: usize, structs: &[u64], text: &[u8]) -> bool
     ensures { result ≡ every_from (n - 1) 0 (λ i. before (name_in_order structs.now text.now i) (name_in_order structs.now text.now (suc i))) }
 {
-    if n == 0 {
-        return true;
-    }
-    let last = n - 1;
-    let mut i = 0;
-    while i < last {
-        let here = part(text, in_order(structs, i));
-        let next = part(text, in_order(structs, i + 1));
-        let ok = before(here, next);
-        if !ok {
-            return false;
-        }
-        i += 1;
-    }
-    true
+    (0..n.saturating_sub(1)).all(|i| {
+        before(
+            part(text, in_order(structs, i)),
+            part(text, in_order(structs, i + 1)),
+        )
+    })
 }
 
 // Struct names inside the text, all different: each is before the next in the order that the store tells.
 pub fn structs_ok(c: Counts, structs: &[u64], text: &[u8]) -> bool
     ensures { result ≡ structs_ok c structs.now text.now }
 {
-    if structs_inside(c, structs) {
-        return ascend(c.structs, structs, text);
-    }
-    false
+    structs_inside(c, structs) && ascend(c.structs, structs, text)
 }
 
 // Function i: its name inside the text, its code behind the others and within its limit.
@@ -148,23 +113,12 @@ pub fn function_ok(c: Counts, functions: &[u64], i: usize) -> bool
         & (code_end(functions, i) <= MOST_PLACES)
 }
 
-// The functions lie in their store, each in order.
+// The functions lie in their store, each in order. (As `structs_inside`, of another order of each: one function of both would be no plainer than a line.)
 pub fn functions_ok(c: Counts, functions: &[u64]) -> bool
     ensures { result ≡ functions_ok c functions.now }
 {
     let n = c.functions;
-    if room(functions.len(), 2) < n {
-        return false;
-    }
-    let mut i = 0;
-    while i < n {
-        let ok = function_ok(c, functions, i);
-        if !ok {
-            return false;
-        }
-        i += 1;
-    }
-    true
+    n <= room(functions.len(), 2) && (0..n).all(|i| function_ok(c, functions, i))
 }
 
 // Function 0 is `<main>`.
@@ -182,26 +136,21 @@ pub fn inside_codes(c: Counts, functions: &[u64], main: usize, other: usize) -> 
         & (code_start(functions, c.functions) <= room(other, 1))
 }
 
-// A whole program, over code and place stores of these lengths.
-pub fn program_ok(
-    c: Counts,
-    constants: &[u64],
-    structs: &[u64],
-    functions: &[u64],
-    text: &[u8],
-    main: usize,
-    main_places: usize,
-    other: usize,
-    other_places: usize,
-) -> bool
-    ensures { WholeIs c constants.now structs.now functions.now text.now main main_places other other_places result }
+// A whole program.
+pub fn program_ok(c: Counts, stores: &ProgramStores) -> bool
+    ensures { result ≡ program_ok c (stores_in stores.now) }
 {
     counts_ok(c)
-        & text_ok(c, text)
-        & constants_ok(c, constants)
-        & structs_ok(c, structs, text)
-        & functions_ok(c, functions)
-        & main_ok(functions, text)
-        & inside_codes(c, functions, main, other)
-        & inside_codes(c, functions, main_places, other_places)
+        & text_ok(c, stores.text)
+        & constants_ok(c, stores.constants)
+        & structs_ok(c, stores.structs, stores.text)
+        & functions_ok(c, stores.functions)
+        & main_ok(stores.functions, stores.text)
+        & inside_codes(c, stores.functions, stores.main.len(), stores.other.len())
+        & inside_codes(
+            c,
+            stores.functions,
+            stores.main_places.len(),
+            stores.other_places.len(),
+        )
 }

@@ -1,7 +1,7 @@
 -- ALL THAT IS PROMISED, on one page: each field is a theorem. `crates/promises/proofs/Kept.antt` keeps them all, and the runner and the lister are
 -- built on that crate, so that none can go or grow weaker unseen.
-use Rattle.std.specs.Prelude.{◌≡◌, Bool, true, false, ◌||◌, List, [], ◌∷◌, map, ℕ, suc, ◌+◌, ◌≤◌, ◌<◌, ◌^◌, eqb, length, take}
-use Rattle.std.proofs.Math.Option.{Option, some}
+use Rattle.std.specs.Prelude.{◌≡◌, Bool, true, false, ◌||◌, List, [], ◌∷◌, map, ℕ, suc, ◌+◌, ◌≤◌, ◌<◌, ◌^◌, eqb, length, take, Ok, Option, Result}
+use Rattle.std.proofs.Math.Option.{Option as Maybe, some}
 use Rattle.model.specs.declared.Op.{Op}
 use Rattle.model.specs.declared.Decoded.TheVariants as d
 use Rattle.model.specs.declared.Counts.{Counts}
@@ -9,14 +9,10 @@ use Rattle.model.specs.declared.Vm.{Vm}
 use Rattle.model.specs.declared.Fault.{Fault}
 use Rattle.model.specs.declared.Frame.{Frame}
 use Rattle.model.specs.declared.Tally.{Tally}
-use Rattle.model.specs.declared.Started.TheVariants as st
-use Rattle.model.specs.declared.Changed.TheVariants as ch
-use Rattle.model.specs.declared.Loaded.TheVariants as l
-use Rattle.model.specs.declared.Told.TheVariants as t
-use Rattle.model.specs.declared.RunResult.{RunResult}
 use Rattle.model.specs.declared.Value.TheVariants as v
 use Rattle.model.specs.Basics.{written}
 use Rattle.model.specs.Numbers.{Bytes}
+use Rattle.model.specs.Answers.{refusal_number}
 use Rattle.model.specs.Values.{text_at}
 use Rattle.model.specs.Heap.{Cell, heap_ok}
 use Rattle.model.specs.Trees.{Tree}
@@ -33,12 +29,9 @@ use Rattle.model.specs.Examples.{Example, examples}
 use Rattle.model.specs.Entries.{Row as EntryRow, entries}
 use Rattle.model.specs.Mistakes.{Row, mistakes}
 use Rattle.model.specs.Opcodes.{opcode_at}
-use Rattle.check_rules.specs.declared.Checked.{Checked}
-use Rattle.check_rules.specs.declared.Checked.TheVariants as c
 use Rattle.check_rules.specs.Rules.{Heights, Passed}
 use Rattle.check_rules.specs.Checks.{CheckAs}
 use Rattle.check_rules.proofs.One.{SameCheck}
-use Rattle.check_heights.specs.declared.Height.{Height}
 use Rattle.check_heights.specs.declared.Flaw.{Flaw}
 use Rattle.check_heights.specs.Answer.{HeightsPost, BreaksAt}
 use Rattle.check_words.specs.Words.{CheckThrough}
@@ -79,6 +72,9 @@ use Rattle.embed_words.specs.Coding.{Coded, vm_in, vm_words, TypedLast, RecordOf
 use Rattle.laws_hosts.specs.Hosts.{CHeld, CDone, Through}
 use Rattle.laws_hosts.specs.Crossed.{held_in, Taken, Handed, ExactIf, way_of, Crossed, MadeIn, SetIn, CDemand1, Short, NotTaken}
 use Rattle.laws_hosts.specs.Chains.{Called, CChain, HostChain, SameSaid, Waiting, Faulted, CDemand3}
+use Rattle.model.specs.declared.Halt.{Halt}
+use Rattle.model.specs.declared.Refusal.{Refusal}
+use Rattle.check_rules.specs.declared.Rejected.{Rejected}
 
 pub record Promises : Type 0 where
   -- ---- DEMAND 1: no code, image or lent store makes it misbehave or run on
@@ -88,10 +84,10 @@ pub record Promises : Type 0 where
   -- with u units there are never more than u written steps
   pub steps_within : (w : World) (m : Machine) (u n : ℕ) (j k : Progress) (t : State) → Steps w n j (begin m u) k t → n ≤ u
   -- the listing's own refusal is 1 or 3
-  pub listing_numbers : (p : Program) (before : List ℕ) (n : ℕ) → listing_of p ≡ unlisted before n → (eqb n 1 || eqb n 3) ≡ true
+  pub listing_numbers : (p : Program) (before : List ℕ) (e : Refusal) → listing_of p ≡ unlisted before e → (eqb (refusal_number e) 1 || eqb (refusal_number e) 3) ≡ true
   -- a machine that was made is in good order, whatever the host held before
-  pub new_in_order : (h h' : Held) (m : Vm) → After (ask new) h (started (st.Done m)) h' → InOrder h'
-  pub load_in_order : (h h' : Held) (m : Vm) (image : List ℕ) → Bytes image → After (ask (load image)) h (started (st.Done m)) h' → InOrder h'
+  pub new_in_order : (h h' : Held) (m : Vm) → After (ask new) h (started (Ok m)) h' → InOrder h'
+  pub load_in_order : (h h' : Held) (m : Vm) (image : List ℕ) → Bytes image → After (ask (load image)) h (started (Ok m)) h' → InOrder h'
   -- every call keeps it so, and no call of a run is then refused 19
   pub chain_kept : (calls : List Call) (h k : Held) (xs : List Answer) → AllTyped calls → Chain calls h xs k → InOrder h → InOrder k
   -- and code stays bytes
@@ -108,7 +104,7 @@ pub record Promises : Type 0 where
       → AnswersAs (world_in h) (run_of (world_in h) (machine_of h) u) (rust.run turns (rust_of (world_in h) (machine_of h)))
   -- what the Rust answers is what the run answers, and it leaves the same machine
   pub ok_same : (w : World) → SaneWorld w → length w.functions ≤ 65536 → (m : Machine) (u : ℕ) → Sane w (begin m u) → Unlimited w (end_of w (begin m u))
-      → (turns : ℕ) (x : Option Tree) (vm : rust.Vm) → rust.run turns (rust_of w m) ≡ rust.ok x vm
+      → (turns : ℕ) (x : Maybe Tree) (vm : rust.Vm) → rust.run turns (rust_of w m) ≡ rust.ok x vm
       → Means w (run_of w m u).machine (run_of w m u).reply x × (vm ≡ rust_of w (run_of w m u).machine)
   -- 26 is not the Rust's: no machine that is not strict faults by it; and where a strict one does not, it does as one that is not strict
   pub a_machine_not_strict_never_faults_by_26 : (w : World) → w.strict ≡ false → (m : Machine) (u : ℕ) (did : Tally) (trace : List Entry)
@@ -176,11 +172,11 @@ pub record Promises : Type 0 where
   pub image_back : (p : Program) → Sound p → judge (image_of p) ≡ fine p
   pub image_only : (b : List ℕ) (p : Program) → Bytes b → judge b ≡ fine p → (b ≡ image_of p) × Sound p
   pub one_program_one_image : (p q : Program) → Sound p → Sound q → (p ≡ q → image_of p ≡ image_of q) × (image_of p ≡ image_of q → p ≡ q)
-  pub load_then_save : (b : List ℕ) (x y : Stores) (c : Counts) (out : List ℕ) → Bytes b → load_of b x ≡ record { answer = l.Done c; stores = y } → save_of c y out ≡ put_out b out
+  pub load_then_save : (b : List ℕ) (x y : Stores) (c : Counts) (out : List ℕ) → Bytes b → load_of b x ≡ record { answer = Ok c; stores = y } → save_of c y out ≡ put_out b out
   pub save_then_load : (c : Counts) (x : Stores) → program_ok c x ≡ true → Below (2 ^ 64) x.constants → Below (2 ^ 32) x.main_places → Below (2 ^ 32) x.other_places
       → Sound (program_in c x) × (judge (image_of (program_in c x)) ≡ fine (program_in c x))
   -- through the entries: the n bytes that `save` wrote are accepted by `load` in any stores that have the room, and what it leaves stands for the same program
-  pub saved_loads : (c : Counts) (x y : Stores) (out out' : List ℕ) (n : ℕ) → save_of c x out ≡ record { answer = t.Number n; out = out' }
+  pub saved_loads : (c : Counts) (x y : Stores) (out out' : List ℕ) (n : ℕ) → save_of c x out ≡ record { answer = Ok n; out = out' }
       → Below (2 ^ 64) x.constants → Below (2 ^ 32) x.main_places → Below (2 ^ 32) x.other_places
       → room_for (program_in c x) y ≡ true → LoadsAs (program_in c x) (take n out') y
   -- ---- DEMAND 3: what a run that ends in a fault or is abandoned leaves, and what every later call then says
@@ -242,23 +238,23 @@ pub record Promises : Type 0 where
       → exec_of w p a b s ≡ went t → Counted k a b s t
   -- through the entries: what the check passed and loaded, with one frame at the start of main, begun, continued and abandoned on any lent stores, however
   -- units are dealt out; and what loading leaves of an image whose program keeps the rules
-  pub checked_runs_so : (image heights : List ℕ) (s s' : Stores) (k : Counts) (hs : List ℕ) → Bytes image → CheckAs image heights s (c.Passed k) hs s'
-      → (e e' : Lent) → innermost 1 e.frames ≡ root 0 → (g : ℕ) (x : RunResult) → Answers (by_entries s') (fresh k) e g x e' → FaultsSo (fresh k) s' e g e' x
+  pub checked_runs_so : (image heights : List ℕ) (s s' : Stores) (k : Counts) (hs : List ℕ) → Bytes image → CheckAs image heights s (Ok k) hs s'
+      → (e e' : Lent) → innermost 1 e.frames ≡ root 0 → (g : ℕ) (x : Result Halt Refusal) → Answers (by_entries s') (fresh k) e g x e' → FaultsSo (fresh k) s' e g e' x
   pub loaded_runs_so : (running : Bool) (image : List ℕ) (p : Program) → Bytes image → judge image ≡ fine p → Passed p → (s s' : Stores) (fs fs' : List Frame) (m : Vm)
-      → load_machine_of running image s fs ≡ record { answer = st.Done m; stores = s'; frames = fs' }
-      → (e e' : Lent) → e.frames ≡ fs' → (g : ℕ) (x : RunResult) → Answers (by_entries s') m e g x e' → FaultsSo m s' e g e' x
+      → load_machine_of running image s fs ≡ record { answer = Ok m; stores = s'; frames = fs' }
+      → (e e' : Lent) → e.frames ≡ fs' → (g : ℕ) (x : Result Halt Refusal) → Answers (by_entries s') m e g x e' → FaultsSo m s' e g e' x
   -- the parts of a run over calls are its parts by the entries, so that this holds whatever other calls come in between
   pub parts_are_under_way : (h k : Held) (g : ℕ) (r : Under) → Parts h g (pauses r) k → UnderWay (by_entries h.stores) h.vm h.lent g k.vm k.lent
   -- and in every state of such a run no frame's part of the stack exceeds what the check told of its function, nor the stack what it told of the functions
   -- that are being called, together
-  pub checked_stays_within : (image heights : List ℕ) (s s' : Stores) (k : Counts) (hs : List ℕ) → Bytes image → CheckAs image heights s (c.Passed k) hs s'
+  pub checked_stays_within : (image heights : List ℕ) (s s' : Stores) (k : Counts) (hs : List ℕ) → Bytes image → CheckAs image heights s (Ok k) hs s'
       → (e : Lent) → innermost 1 e.frames ≡ root 0 → StaysWithin (by_entries s') (fresh k) s' e hs
   -- the same of any machine over such a program that has not run, whatever its cells and its last result: one that was put back to the start of main, too
-  pub installed_runs_so : (p : Program) → Passed p → (m : Vm) (s : Stores) (e e' : Lent) → Installed p m s e → (g : ℕ) (x : RunResult) → Answers (by_entries s) m e g x e'
+  pub installed_runs_so : (p : Program) → Passed p → (m : Vm) (s : Stores) (e e' : Lent) → Installed p m s e → (g : ℕ) (x : Result Halt Refusal) → Answers (by_entries s) m e g x e'
       → FaultsSo m s e g e' x
   pub installed_stays_within : (p : Program) → Passed p → (m : Vm) (s : Stores) (e : Lent) → Installed p m s e → (hs : List ℕ) → Tells p hs → StaysWithin (by_entries s) m s e hs
   -- one that a host has made strict among them: changing the setting keeps what is installed
-  pub a_setting_keeps_what_is_installed : (p : Program) (m k : Vm) (s : Stores) (e : Lent) → Installed p m s e → (strict : Bool) → setStrictOf strict m s e ≡ ch.Done k
+  pub a_setting_keeps_what_is_installed : (p : Program) (m k : Vm) (s : Stores) (e : Lent) → Installed p m s e → (strict : Bool) → setStrictOf strict m s e ≡ Ok k
       → Installed p k s e
   -- ---- THE LISTING WITH NOTES: it shows a line for each place where the walk over instructions stands, and the text of every image fits its store
 
@@ -295,18 +291,18 @@ pub record Promises : Type 0 where
   -- what `chaffwheel_check` passed (0), run by `chaffwheel_begin`, `chaffwheel_continue` and `chaffwheel_abandon` over the record, the stores and the frames
   -- that it left
   pub host_runs_so : (image w a heights : List ℕ) (s s' : Stores) (fs fs' : List Frame) (x : Coded) (hs : List ℕ) → Bytes image
-      → CheckThrough image w a heights s fs x hs s' fs' → x.number ≡ 0 → (e e' : Lent) → e.frames ≡ fs' → (g : ℕ) (y : RunResult)
+      → CheckThrough image w a heights s fs x hs s' fs' → x.number ≡ 0 → (e e' : Lent) → e.frames ≡ fs' → (g : ℕ) (y : Result Halt Refusal)
       → Answers (FromC s') (vm_in x.vm) e g y e' → FaultsSo (vm_in x.vm) s' e g e' y
   pub host_stays_within : (image w a heights : List ℕ) (s s' : Stores) (fs fs' : List Frame) (x : Coded) (hs : List ℕ) → Bytes image
       → CheckThrough image w a heights s fs x hs s' fs' → x.number ≡ 0 → (e : Lent) → e.frames ≡ fs' → StaysWithin (FromC s') (vm_in x.vm) s' e hs
   -- ---- NO SECOND ANSWER fits a contract
 
-  pub run_one : (c : RunCall) (m : Vm) (s : Stores) (e : Lent) (x y : RunResult) (e' k' : Lent) → RunPost c m s e x e' → RunPost c m s e y k' → SameRun m x y e' k'
-  pub check_one : (image heights : List ℕ) (s : Stores) (x y : Checked) (hs ks : List ℕ) (t u : Stores) → CheckAs image heights s x hs t → CheckAs image heights s y ks u
+  pub run_one : (c : RunCall) (m : Vm) (s : Stores) (e : Lent) (x y : Result Halt Refusal) (e' k' : Lent) → RunPost c m s e x e' → RunPost c m s e y k' → SameRun m x y e' k'
+  pub check_one : (image heights : List ℕ) (s : Stores) (x y : Result Counts Rejected) (hs ks : List ℕ) (t u : Stores) → CheckAs image heights s x hs t → CheckAs image heights s y ks u
       → SameCheck x y hs ks t u
   pub check_through_one : (image w a heights : List ℕ) (s : Stores) (fs : List Frame) (x y : Coded) (hs ks : List ℕ) (t u : Stores) (gs rs : List Frame)
       → CheckThrough image w a heights s fs x hs t gs → CheckThrough image w a heights s fs y ks u rs → SameThrough x y hs ks t u gs rs
-  pub heights_one_answer : (main : Bool) (count : ℕ) (code : List ℕ) (x y : Height) → HeightsPost main count code x → HeightsPost main count code y → x ≡ y
+  pub heights_one_answer : (main : Bool) (count : ℕ) (code : List ℕ) (x y : Option ℕ) → HeightsPost main count code x → HeightsPost main count code y → x ≡ y
   -- and what is told to break its rule does
   pub a_flaw_breaks : (main : Bool) (count : ℕ) (code : List ℕ) (x : Flaw) → BreaksAt main count code x → Heights main count code → ⊥
   pub ask_one : (q : Ask) (h h' k' : Held) (a b : Answer) → After (ask q) h a h' → After (ask q) h b k' → (a ≡ b) × (h' ≡ k')

@@ -11,8 +11,6 @@ use borrow.Author.Tests.{lt-ltb}
 use Rattle.model.specs.declared.Vm.{Vm}
 use Rattle.model.specs.declared.Value.{Value}
 use Rattle.model.specs.declared.Value.TheVariants as v
-use Rattle.model.specs.declared.Shown.TheVariants as w
-use Rattle.model.specs.declared.Headed.TheVariants as h
 use Rattle.model.specs.Basics.{every_from}
 use Rattle.model.specs.Values.{if_string, if_reference, places, kind_at, payload_at, value_at, exact_value, text_at}
 use Rattle.model.specs.Heap.{Cell, heap_of, item_in, head_in, placed_below, heap_ok, exact_cell, exact_cells}
@@ -26,9 +24,10 @@ use Rattle.cells.proofs.Order.{Element, good_of}
 use Rattle.cells.proofs.Stands.{kind_is, item_is, exact_at_lem}
 use Rattle.cells.proofs.Scans.{placed_cut}
 use Rattle.readers.proofs.Shows.{Stands, stands}
+use Rattle.std.specs.Prelude.{Ok}
 
 -- the value at a place of the stack
-pub stack_told : (m : Vm) (H : List Cell) (i : ℕ) (s : List ℕ) → stack_ok m.program.text H m.stack s ≡ true → i < m.stack → stack_value_of m i s ≡ w.Value (value_at s i)
+pub stack_told : (m : Vm) (H : List Cell) (i : ℕ) (s : List ℕ) → stack_ok m.program.text H m.stack s ≡ true → i < m.stack → stack_value_of m i s ≡ Ok (value_at s i)
 unfolding stack_ok stack_value_of value_shown
 stack_told m H i s e l =
     let test : ℕ → Bool = λ j. exact_value (kind_at s j) (payload_at s j) && placed_below m.program.text H (length H) (value_at s j) in
@@ -53,12 +52,12 @@ module _ (m : Vm) (x : Value) (cells : List ℕ) (e : cells_ok m.program.text m.
 
   module _ (placed : placed_below m.program.text H m.cells x ≡ true) (p : ℕ) (at : header_at x ≡ some p) where
     -- the header of a list or struct
-    pub header_told : block_header_of m x cells ≡ h.Is (head_in H p)
+    pub header_told : block_header_of m x cells ≡ Ok (head_in H p)
     unfolding block_header_of header_shown
     header_told = rw (in_cells placed, at)
 
     -- each of its elements
-    pub element_told : (i : ℕ) → i < (head_in H p).count → element_of m x i cells ≡ w.Value (item_in H (suc p + i))
+    pub element_told : (i : ℕ) → i < (head_in H p).count → element_of m x i cells ≡ Ok (item_in H (suc p + i))
     unfolding cells_ok element_of element_shown value_shown exact_cell block_at
     element_told i l =
         let text = m.program.text in

@@ -1,2 +1,2 @@
--- What is read of a record, and what becomes of it.
-pub mod Turns
+-- A record's parts, and what is said of it.
+pub mod Parts

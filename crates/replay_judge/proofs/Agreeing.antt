@@ -7,16 +7,14 @@ use lib.Dec.{eqb}
 use lib.ListN.{take}
 use borrow.Author.Tests.{eqb-true, eq-eqb}
 use Rattle.model.specs.declared.Counts.{Counts}
-use Rattle.model.specs.declared.Loaded.{Loaded}
-use Rattle.model.specs.declared.Loaded.TheVariants as l
-use Rattle.model.specs.declared.Told.{Told}
-use Rattle.model.specs.declared.Told.TheVariants as t
 use Rattle.model.specs.Equality.{same_bytes}
 use Rattle.model.specs.Stores.{Stores}
 use Rattle.model.specs.Loading.{save_of}
 use Rattle.model.specs.Reports.{runner_text, lister_text}
 use Rattle.layout.proofs.Bools.{apart, and_left, and_right}
 use Rattle.replay_judge.specs.Compared.{load_text, read_of, back_to, saving_of, compared_at, compare_of, verdict_of}
+use Rattle.std.specs.Prelude.{Err, Ok, Result}
+use Rattle.model.specs.declared.Refusal.{Refusal}
 
 same_is : (a b : List ℕ) → same_bytes a b ≡ true → a ≡ b
 unfolding same_bytes
@@ -37,33 +35,32 @@ same_so : (a b : List ℕ) → a ≡ b → same_bytes a b ≡ true
 same_so a b e = rw e (same_self b)
 
 -- bytes were written, and they are the image
-pub record Back (image : List ℕ) (told : Told) (out : List ℕ) : Type 0 where
+pub record Back (image : List ℕ) (told : Result ℕ Refusal) (out : List ℕ) : Type 0 where
   pub count : ℕ
-  pub number : told ≡ t.Number count
+  pub number : told ≡ Ok count
   pub bytes : take count out ≡ image
 
-back_is : (image : List ℕ) (told : Told) (out : List ℕ) → back_to image told out ≡ true → Back image told out
+back_is : (image : List ℕ) (told : Result ℕ Refusal) (out : List ℕ) → back_to image told out ≡ true → Back image told out
 unfolding back_to
-back_is image (t.Number n) out e = record { count = n; number = refl; bytes = same_is _ _ e }
-back_is image (t.Refused n) out e = apart false e refl
+back_is image (Ok n) out e = record { count = n; number = refl; bytes = same_is _ _ e }
+back_is image (Err r) out e = apart false e refl
 
-back_so : (image : List ℕ) (told : Told) (out : List ℕ) → Back image told out → back_to image told out ≡ true
+back_so : (image : List ℕ) (told : Result ℕ Refusal) (out : List ℕ) → Back image told out → back_to image told out ≡ true
 unfolding back_to
 back_so image told out b = rw b.number (same_so _ _ b.bytes)
 
 -- what was loaded was saved as the image
-abbrev pub Kept : List ℕ → Loaded → Stores → List ℕ → Type 0
-Kept image answer s saved = (c : Counts) → answer ≡ l.Done c → Back image (save_of c s saved).answer (save_of c s saved).out
+abbrev pub Kept : List ℕ → Result Counts Refusal → Stores → List ℕ → Type 0
+Kept image answer s saved = (c : Counts) → answer ≡ Ok c → Back image (save_of c s saved).answer (save_of c s saved).out
 
-saved_is : (image : List ℕ) (answer : Loaded) (s : Stores) (saved : List ℕ) → (saving_of image answer s saved).agrees ≡ true → Kept image answer s saved
+saved_is : (image : List ℕ) (answer : Result Counts Refusal) (s : Stores) (saved : List ℕ) → (saving_of image answer s saved).agrees ≡ true → Kept image answer s saved
 unfolding saving_of
 saved_is image answer s saved e c h = back_is _ _ _ (rw h at e)
 
-saved_so : (image : List ℕ) (answer : Loaded) (s : Stores) (saved : List ℕ) → Kept image answer s saved → (saving_of image answer s saved).agrees ≡ true
+saved_so : (image : List ℕ) (answer : Result Counts Refusal) (s : Stores) (saved : List ℕ) → Kept image answer s saved → (saving_of image answer s saved).agrees ≡ true
 unfolding saving_of
-saved_so image (l.Done c) s saved h = back_so _ _ _ (h c refl)
-saved_so image (l.Broken o) s saved h = refl
-saved_so image (l.Refused n) s saved h = refl
+saved_so image (Ok c) s saved h = back_so _ _ _ (h c refl)
+saved_so image (Err e) s saved h = refl
 
 module _ (image loading : List ℕ) (s : Stores) (saved : List ℕ) where
   pub loading_is : (compare_of image loading s saved).loading ≡ true → load_text (read_of image s).answer ≡ loading

@@ -1,21 +1,13 @@
 -- What the answers are, way by way.
-use mathlib.Core.Path.{◌≡◌, refl, sym, ap, ◌∙◌}
+use mathlib.Core.Path.{◌≡◌, sym, ap, ◌∙◌}
 use mathlib.Core.Bool.{Bool, true, false}
-use mathlib.Core.List.{List, [], ◌∷◌}
+use mathlib.Core.List.{List}
 use Prim.Native.Nat.{ℕ, ◌/◌, ◌≤◌, ◌<◌, ◌^◌}
 use native.Mathlib.Omega.{arith}
 use native.Mathlib.Nat.{min-eq_left}
 use lib.ListN.{length, take, replicate, length-replicate}
-use denote.Enum.Declared.{tag_of}
-use types.Run.{OneOf, miss}
 use borrow.Author.Tests.{le-leb, lt-leb}
-use Rattle.model.specs.contracts.Loaded.{the_type as loaded-type}
-use Rattle.model.specs.contracts.Told.{the_type as told-type}
 use Rattle.model.specs.declared.Counts.{Counts}
-use Rattle.model.specs.declared.Loaded.{Loaded}
-use Rattle.model.specs.declared.Loaded.TheVariants as l
-use Rattle.model.specs.declared.Told.{Told}
-use Rattle.model.specs.declared.Told.TheVariants as t
 use Rattle.model.specs.Equality.{same_bytes}
 use Rattle.model.specs.Values.{places, most_places}
 use Rattle.model.specs.Stores.{Stores}
@@ -25,8 +17,11 @@ use Rattle.report.specs.Links.{Printed, printed}
 use Rattle.report.proofs.Prints.{fits}
 use Rattle.replay_judge.proofs.Lines.{same_line}
 use Rattle.replay_judge.specs.Compared.{load_text, read_of, back_to, saving_of, Compared, compared_at, compare_of, verdict_of}
+use Rattle.std.specs.Prelude.{Err, Ok, Result}
+use Rattle.model.specs.declared.Refusal.{Refusal}
+use Rattle.model.specs.declared.Refusal.TheVariants as why
 
-pub too_long : (image : List ℕ) (s : Stores) → 16384 < length image → record { answer = l.Refused 22; stores = s } ≡ read_of image s
+pub too_long : (image : List ℕ) (s : Stores) → 16384 < length image → record { answer = Err why.OverLimit; stores = s } ≡ read_of image s
 unfolding read_of
 too_long image s h = rw (lt-leb _ _ h)
 
@@ -37,32 +32,26 @@ loads image s h e = rw (le-leb _ _ h) e
 -- ---- saving
 
 module _ (image : List ℕ) (s : Stores) (out : List ℕ) where
-  pub not_loaded : (answer : Loaded) → OneOf (1 ∷ 2 ∷ []) (tag_of loaded-type answer) → record { agrees = true; out = out } ≡ saving_of image answer s out
+  pub not_loaded : {answer : Result Counts Refusal} {e : Refusal} → answer ≡ Err e → record { agrees = true; out = out } ≡ saving_of image answer s out
   unfolding saving_of
-  not_loaded (l.Done c) d = absurd (miss (1 ∷ 2 ∷ []) 0 tt d)
-  not_loaded (l.Broken o) d = refl
-  not_loaded (l.Refused n) d = refl
+  not_loaded h = rw h
 
-  none : (told : Told) → OneOf (1 ∷ []) (tag_of told-type told) → (o : List ℕ) → false ≡ back_to image told o
-  unfolding back_to
-  none (t.Number n) d o = absurd (miss (1 ∷ []) 0 tt d)
-  none (t.Refused n) d o = refl
-
-  module _ {answer : Loaded} {c : Counts} (e : answer ≡ l.Done c) {told : Told} {o : List ℕ} (h : record { answer = told; out = o } ≡ save_of c s out) where
+  module _ {answer : Result Counts Refusal} {c : Counts} (e : answer ≡ Ok c) {told : Result ℕ Refusal} {o : List ℕ} (h : record { answer = told; out = o } ≡ save_of c s out) where
     saved : (b : Bool) → b ≡ back_to image told o → record { agrees = b; out = o } ≡ saving_of image answer s out
     unfolding saving_of
     saved b f = rw (e, ← h, f)
 
-    pub not_saved : OneOf (1 ∷ []) (tag_of told-type told) → record { agrees = false; out = o } ≡ saving_of image answer s out
-    not_saved d = saved false (none told d o)
+    pub not_saved : {r : Refusal} → told ≡ Err r → record { agrees = false; out = o } ≡ saving_of image answer s out
+    unfolding back_to
+    not_saved f = saved false (rw f)
 
-    pub saved_as : {n : ℕ} → told ≡ t.Number n → (r : Bool) → r ≡ same_bytes (take n o) image → record { agrees = r; out = o } ≡ saving_of image answer s out
+    pub saved_as : {n : ℕ} → told ≡ Ok n → (r : Bool) → r ≡ same_bytes (take n o) image → record { agrees = r; out = o } ≡ saving_of image answer s out
     unfolding back_to
     saved_as f r g = saved r (rw f g)
 
 -- ---- loading and saving
 
-pub all : (image loading : List ℕ) (s : Stores) (saved : List ℕ) {answer : Loaded} {s' : Stores} → record { answer = answer; stores = s' } ≡ read_of image s
+pub all : (image loading : List ℕ) (s : Stores) (saved : List ℕ) {answer : Result Counts Refusal} {s' : Stores} → record { answer = answer; stores = s' } ≡ read_of image s
     → {a : Bool} → a ≡ same_bytes (load_text answer) loading → {b : Bool} {saved' : List ℕ} → record { agrees = b; out = saved' } ≡ saving_of image answer s' saved
     → record { loading = a; saving = b; stores = s'; saved = saved' } ≡ compare_of image loading s saved
 unfolding compare_of compared_at

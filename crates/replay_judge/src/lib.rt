@@ -1,21 +1,23 @@
 // What loading, saving, running and listing an image answer, held against texts that say what they should.
 #![tactic(auto)]
 
-ghost use Rattle.std.specs.Prelude.{◌≡◌, take};
+ghost use Rattle.std.specs.Prelude.{◌≡◌, take, Err};
 ghost use Rattle.model.specs.Equality.{same_bytes};
 ghost use Rattle.model.specs.Reports.{lister_text, runner_text};
 ghost use Rattle.model.specs.Stores.{stores_of as lent};
+ghost use Rattle.layout.specs.Lent.{stores_in};
 ghost use Rattle.printing.specs.Links.{Put};
 ghost use Rattle.replay_judge.specs.Compared.{loaded, load_text, read_of, saving_of, compare_of, verdict_of};
 
 use image_load::load;
 use image_save::save;
-use layout::reads::{lesser, same_bytes};
-use model::{Counts, Loaded, Told};
+use layout::lent::ProgramStores;
+use layout::reads::same_bytes;
+use model::{Counts, Refusal};
 use printing::{put_count, put_line};
 use report::{list_image, run_image};
 
-// Which answers agree.
+// Which answers agree: each is a judgement of its own, beside which no value stands.
 #[derive(Clone, Copy)]
 pub struct Verdict {
     pub loading: bool,
@@ -43,14 +45,23 @@ fn put_loaded(c: Counts, out: &mut [u8]) -> usize
     put_line(b" ", c.text, out, text)
 }
 
+// The line of a refusal.
+fn put_refused(why: Refusal, out: &mut [u8]) -> usize
+    ensures { Put 96 (load_text (Err why)) out.old 0 out.new result }
+{
+    match why {
+        Refusal::BrokenImage(o) => put_line(b"refused 20 ", o, out, 0),
+        _ => put_line(b"refused ", usize::from(why.number()), out, 0),
+    }
+}
+
 // The line of what loading answered.
-fn put_answer(answer: Loaded, out: &mut [u8]) -> usize
+fn put_answer(answer: Result<Counts, Refusal>, out: &mut [u8]) -> usize
     ensures { Put 96 (load_text answer) out.old 0 out.new result }
 {
     match answer {
-        Loaded::Done(c) => put_loaded(c, out),
-        Loaded::Broken(o) => put_line(b"refused 20 ", o, out, 0),
-        Loaded::Refused(n) => put_line(b"refused ", n as usize, out, 0),
+        Ok(c) => put_loaded(c, out),
+        Err(why) => put_refused(why, out),
     }
 }
 
@@ -60,12 +71,11 @@ fn put_answer(answer: Loaded, out: &mut [u8]) -> usize
 pub fn same_front(s: &[u8], n: usize, want: &[u8]) -> bool
     ensures { result ≡ same_bytes (take n s.now) want.now }
 {
-    let end = lesser(n, s.len());
-    same_bytes(&s[..end], want)
+    same_bytes(&s[..n.min(s.len())], want)
 }
 
 // Whether the line of what loading answered is this.
-fn same_line(answer: Loaded, want: &[u8]) -> bool
+fn same_line(answer: Result<Counts, Refusal>, want: &[u8]) -> bool
     ensures { result ≡ same_bytes (load_text answer) want.now }
 {
     let mut line = [0u8; 96];
@@ -86,11 +96,11 @@ fn read(
     main_places: &mut [u32],
     other: &mut [u8],
     other_places: &mut [u32],
-) -> Loaded
+) -> Result<Counts, Refusal>
     ensures { record { answer = result; stores = lent constants.new structs.new functions.new text.new main.new main_places.new other.new other_places.new } ≡ read_of image.now (lent constants.old structs.old functions.old text.old main.old main_places.old other.old other_places.old) }
 {
     if 16384 < image.len() {
-        return Loaded::Refused(22);
+        return Err(Refusal::OverLimit);
     }
     load(
         image,
@@ -107,36 +117,17 @@ fn read(
 
 // Whether a program that was loaded is saved as its image.
 fn saves(
-    answer: Loaded,
+    answer: Result<Counts, Refusal>,
     image: &[u8],
-    constants: &[u64],
-    structs: &[u64],
-    functions: &[u64],
-    text: &[u8],
-    main: &[u8],
-    main_places: &[u32],
-    other: &[u8],
-    other_places: &[u32],
+    stores: &ProgramStores,
     saved: &mut [u8],
 ) -> bool
-    ensures { record { agrees = result; out = saved.new } ≡ saving_of image.now answer (lent constants.now structs.now functions.now text.now main.now main_places.now other.now other_places.now) saved.old }
+    ensures { record { agrees = result; out = saved.new } ≡ saving_of image.now answer (stores_in stores.now) saved.old }
 {
-    let Loaded::Done(c) = answer else {
+    let Ok(c) = answer else {
         return true;
     };
-    let told = save(
-        c,
-        constants,
-        structs,
-        functions,
-        text,
-        main,
-        main_places,
-        other,
-        other_places,
-        saved,
-    );
-    let Told::Number(n) = told else {
+    let Ok(n) = save(c, stores, saved) else {
         return false;
     };
     same_front(saved, n, image)
@@ -170,9 +161,7 @@ fn compare(
         other_places,
     );
     let loads = same_line(answer, loading);
-    let saving = saves(
-        answer,
-        image,
+    let stores = ProgramStores {
         constants,
         structs,
         functions,
@@ -181,15 +170,15 @@ fn compare(
         main_places,
         other,
         other_places,
-        saved,
-    );
+    };
+    let saving = saves(answer, image, &stores, saved);
     Kept {
         loading: loads,
-        saving: saving,
+        saving,
     }
 }
 
-// Whether this is what the runner prints, which always fits.
+// Whether this is what the runner prints, which always fits. (As `same_line`, of another text: the size of its store is what tells them apart.)
 fn runs(image: &[u8], want: &[u8]) -> bool
     ensures { result ≡ same_bytes (runner_text image.now) want.now }
 {
@@ -240,12 +229,10 @@ pub fn judge(image: &[u8], loading: &[u8], running: &[u8], listing: &[u8]) -> Ve
         &mut other_places,
         &mut saved,
     );
-    let ran = runs(image, running);
-    let listed = lists(image, listing);
     Verdict {
         loading: kept.loading,
         saving: kept.saving,
-        running: ran,
-        listing: listed,
+        running: runs(image, running),
+        listing: lists(image, listing),
     }
 }

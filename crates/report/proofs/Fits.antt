@@ -16,8 +16,7 @@ use Rattle.model.specs.declared.Value.{Value}
 use Rattle.model.specs.declared.Value.TheVariants as v
 use Rattle.model.specs.declared.Decoded.{Decoded}
 use Rattle.model.specs.declared.Decoded.TheVariants as d
-use Rattle.model.specs.declared.Loaded.{Loaded}
-use Rattle.model.specs.declared.Loaded.TheVariants as l
+use Rattle.model.specs.Answers.{refusal_number}
 use Rattle.model.specs.Basics.{ascii}
 use Rattle.model.specs.Heap.{Cell, head_in}
 use Rattle.model.specs.Numbers.{Bytes, digits, groups_of}
@@ -38,6 +37,8 @@ use Rattle.image.proofs.Trip.{image_only, loaded_as}
 use Rattle.listing.proofs.Names as names
 use Rattle.printing.proofs.Digits.{short, five}
 use Rattle.report.proofs.Shown.{runner_long, run_trace}
+use Rattle.std.specs.Prelude.{Err, Ok, Result}
+use Rattle.model.specs.declared.Refusal.{Refusal}
 
 -- ---- bytes
 
@@ -298,7 +299,7 @@ within_more (unlisted l n) j k h g = tt
 pub listed_short : (k : ℕ) → 29 ≤ k → (w : Listed) → Within k w → length (listed_text w) ≤ k
 unfolding listed_text
 listed_short k g (text b) h = h
-listed_short k g (unlisted l n) h = let z = refused_short n in omega arith
+listed_short k g (unlisted l e) h = let z = refused_short (refusal_number e) in omega arith
 
 -- ---- both texts fit
 
@@ -307,28 +308,26 @@ module _ (image : List ℕ) (bytes : Bytes image) where
   unfolding empty_stores
   loaded_code = loaded_bytes empty_stores (bytes_zeros 8192) (bytes_zeros 8192) image bytes
 
-  started_fits : (a : Loaded) → length (started (start_with a (load_of image empty_stores).stores empty_stores (replicate 256 (root 0)))) ≤ 32768
+  started_fits : (a : Result Counts Refusal) → length (started (start_with a (load_of image empty_stores).stores empty_stores (replicate 256 (root 0)))) ≤ 32768
   unfolding started started_text start_with
-  started_fits (l.Done c) =
+  started_fits (Ok c) =
       let s = (load_of image empty_stores).stores in
       let lent = empty_lent (replicate 256 (root 0)) in
       let k : length lent.backtrace ≡ 768 = (unfold empty_lent in length-replicate {A = ℕ} 768 0) in
       let z = report_short (fresh c) s loaded_code lent runner_long 1000000 in
       omega arith
-  started_fits (l.Broken i) = let z = refused_short 20 in omega arith
-  started_fits (l.Refused n) = let z = refused_short n in omega arith
+  started_fits (Err e) = let z = refused_short (refusal_number e) in omega arith
 
-  loaded_fits : length image ≤ 16384 → (a : Loaded) (s : Stores) → load_of image empty_stores ≡ record { answer = a; stores = s } → length (loaded_text a s) ≤ 524288
+  loaded_fits : length image ≤ 16384 → (a : Result Counts Refusal) (s : Stores) → load_of image empty_stores ≡ record { answer = a; stores = s } → length (loaded_text a s) ≤ 524288
   unfolding loaded_text listing_of
-  loaded_fits h (l.Done c) s e =
+  loaded_fits h (Ok c) s e =
       let p = program_in c s in
       let o : image ≡ image_of p = (loaded_as image empty_stores s c bytes e).0 in
       let i : length (image_of p) ≡ length image = ap length (sym o) in
       let n = functions_shorter p in
       let z = listing_within 0 p.functions (functions_in p (subst Bytes o bytes)) (omega arith) in
       listed_short 524288 (omega arith) (listing_from 0 p.functions) (within_more (listing_from 0 p.functions) _ 524288 z (omega arith))
-  loaded_fits h (l.Broken i) s e = let z = refused_short 20 in omega arith
-  loaded_fits h (l.Refused n) s e = let z = refused_short n in omega arith
+  loaded_fits h (Err n) s e = let z = refused_short (refusal_number n) in omega arith
 
   pub runner_fits : length (runner_text image) ≤ 32768
   unfolding runner_text load_machine_of unless_running

@@ -5,8 +5,6 @@ use mathlib.Core.List.{List, [], ◌∷◌}
 use Prim.Native.Nat.{ℕ, suc, ◌≤◌, ◌<◌}
 use lib.ListN.{length, get_or}
 use borrow.Author.Tests.{lt-ltb, le-ltb}
-use Rattle.model.specs.declared.Loaded.{Loaded}
-use Rattle.model.specs.declared.Loaded.TheVariants as l
 use Rattle.model.specs.Numbers.{Bytes}
 use Rattle.model.specs.Stores.{Stores}
 use Rattle.model.specs.Orders.{counts_ok, text_ok, constants_ok, structs_ok, functions_ok, main_ok, inside_codes, program_ok}
@@ -18,6 +16,9 @@ use Rattle.image.proofs.Trip.{loaded_as}
 use Rattle.listing.specs.Links.{lent}
 use Rattle.report_lines.specs.Links.{printed}
 use Rattle.report_listed.specs.Links.{Listable}
+use Rattle.std.specs.Prelude.{Err, Ok, Result}
+use Rattle.model.specs.declared.Counts.{Counts}
+use Rattle.model.specs.declared.Refusal.{Refusal}
 
 fewer : (a b c d e f g h : Bool) → (a && b && c && d && e && f && g && h) ≡ true → (a && b && e && f && g) ≡ true
 fewer a b c d e f g h z =
@@ -35,21 +36,20 @@ bytes_of [] h = tt
 bytes_of (x ∷ b) h = (h 0, bytes_of b (λ i. h (suc i)))
 
 module _ (image : List ℕ) (small : (i : ℕ) → get_or image i 0 < 256) (cs ss fs tx mn mp ot op : List ℕ) where
-  pub loads_listable : (x : Stores) (a : Loaded) → record { answer = a; stores = stores_of cs ss fs tx mn mp ot op } ≡ load_of image x
+  pub loads_listable : (x : Stores) (a : Result Counts Refusal) → record { answer = a; stores = stores_of cs ss fs tx mn mp ot op } ≡ load_of image x
       → (rest : Stores) → Listable a (lent rest fs tx mn ot)
   unfolding program_ok list_order lent
-  loads_listable x (l.Done c) e rest =
+  loads_listable x (Ok c) e rest =
       fewer (counts_ok c) (text_ok c tx) (constants_ok c cs) (structs_ok c ss tx) (functions_ok c fs) (main_ok fs tx) (inside_codes c fs mn ot) (inside_codes c fs mp op)
       (loaded_as image x (stores_of cs ss fs tx mn mp ot op) c (bytes_of image small) (sym e)).1
-  loads_listable x (l.Broken i) e rest = tt
-  loads_listable x (l.Refused n) e rest = tt
+  loads_listable x (Err n) e rest = tt
 
 module _ (image out : List ℕ) {r : ℕ} {out' : List ℕ} where
   pub image_too_long : 16384 < length image → record { count = r; out = out' } ≡ printed (refused_line 22) out → record { count = r; out = out' } ≡ printed (lister_text image) out
   unfolding lister_text
   image_too_long h p = rw (lt-ltb 16384 (length image) h) p
 
-  pub image_listed : length image ≤ 16384 → (a : Loaded) (cs ss fs tx mn mp ot op : List ℕ) → record { answer = a; stores = stores_of cs ss fs tx mn mp ot op } ≡ load_of image empty_stores
+  pub image_listed : length image ≤ 16384 → (a : Result Counts Refusal) (cs ss fs tx mn mp ot op : List ℕ) → record { answer = a; stores = stores_of cs ss fs tx mn mp ot op } ≡ load_of image empty_stores
       → ((rest : Stores) → record { count = r; out = out' } ≡ printed (loaded_text a (lent rest fs tx mn ot)) out) → record { count = r; out = out' } ≡ printed (lister_text image) out
   unfolding lister_text lent
   image_listed h a cs ss fs tx mn mp ot op e p = rw (le-ltb 16384 (length image) h, ← e) (p (stores_of cs ss fs tx mn mp ot op))

@@ -1,8 +1,8 @@
 -- One run by the three calls: it comes to what one run comes to by the rules, or is refused as one run would be.
-use Rattle.std.specs.Prelude.{if◌then◌else◌}
-use mathlib.Core.Path.{◌≡◌, refl, sym, ap, subst, ◌∙◌}
-use mathlib.Core.Bool.{Bool, true, false, true≢false, ◌||◌}
-use mathlib.Core.List.{List, [], ◌∷◌}
+use Rattle.std.specs.Prelude.{if◌then◌else◌, Err, Ok, Result}
+use mathlib.Core.Path.{◌≡◌, refl, sym, ap, ◌∙◌}
+use mathlib.Core.Bool.{true, false, true≢false}
+use mathlib.Core.List.{[], ◌∷◌}
 use Prim.Native.Nat.{ℕ, ◌+◌, ◌≤◌}
 use native.Mathlib.Omega.{arith}
 use lib.Dec.{ltb, eqb}
@@ -10,18 +10,19 @@ use lib.ListN.{length}
 use lib.Seq.{length-sets}
 use borrow.Author.Tests.{le-ltb}
 use Rattle.model.specs.declared.Vm.{Vm}
-use Rattle.model.specs.declared.RunResult.{RunResult}
-use Rattle.model.specs.declared.RunResult.TheVariants as r
+use Rattle.model.specs.declared.Halt.TheVariants as r
 use Rattle.model.specs.Values.{places}
 use Rattle.model.specs.Steps.{World}
 use Rattle.model.specs.Runs.{Machine, Ended, ended, stopped, paused, begin, end_of, Ran, Under, Part, ends, pauses, part_of, begin_of, continue_of, abandon_of, dealt, given_up, run_of}
 use Rattle.model.specs.Stores.{Stores, world_in}
 use Rattle.model.specs.Emission.{written}
-use Rattle.model.specs.Machines.{Lent, frame_room, machine_in, under_in, world_of, run_order, copy_short, trace_short, run_refusal, Unchanged, unchanged, RunAnswer, ran, refused, begin_answer, continue_answer, abandon_answer, RunCall, begins, continues, abandons, run_answer, entry_words, trace_of_part, trace_after, answer_in, SameRooms, Leaves, RunPost}
+use Rattle.model.specs.Machines.{Lent, frame_room, machine_in, under_in, world_of, run_order, copy_short, trace_short, run_refusal, Unchanged, unchanged, RunAnswer, ran, refused, begin_answer, continue_answer, abandon_answer, RunCall, begins, continues, run_answer, entry_words, trace_of_part, trace_after, answer_in, SameRooms, RunPost}
 use Rattle.layout.proofs.Bools.{either_way}
 use Rattle.laws_runs.specs.Parts.{sum_of}
 use Rattle.laws_runs.proofs.Parts.{parts_are_one_run}
 use Rattle.report.specs.Links.{is_paused, OneRun, at_once, continued, abandoned}
+use Rattle.model.specs.declared.Halt.{Halt}
+use Rattle.model.specs.declared.Refusal.{Refusal}
 
 -- what one run of u units comes to
 unfoldable pub one_answer : Vm → Stores → Lent → (u : ℕ) → RunAnswer
@@ -91,13 +92,13 @@ record EndsIn (x : Part) : Type 0 where
   ran_so : Ran
   is : x ≡ ends ran_so
 
-over_ends : (l : Lent) (x : RunResult) → is_paused x ≡ false → {c : Unchanged} {y : Part} → answer_in l x ≡ ran c y → EndsIn y
+over_ends : (l : Lent) (x : Result Halt Refusal) → is_paused x ≡ false → {c : Unchanged} {y : Part} → answer_in l x ≡ ran c y → EndsIn y
 unfolding answer_in is_paused
-over_ends l (r.Value m v n) o e = record { ran_so = _; is = sym (same_ran e).1 }
-over_ends l (r.Continue m n) o e = record { ran_so = _; is = sym (same_ran e).1 }
-over_ends l (r.Fault m k n j) o e = record { ran_so = _; is = sym (same_ran e).1 }
-over_ends l (r.Paused m) o e = absurd (true≢false o)
-over_ends l (r.Refused n) o e = absurd (not_ran e)
+over_ends l (Ok (r.Value m v n)) o e = record { ran_so = _; is = sym (same_ran e).1 }
+over_ends l (Ok (r.Continue m n)) o e = record { ran_so = _; is = sym (same_ran e).1 }
+over_ends l (Ok (r.Fault m k n j)) o e = record { ran_so = _; is = sym (same_ran e).1 }
+over_ends l (Ok (r.Paused m)) o e = absurd (true≢false o)
+over_ends l (Err n) o e = absurd (not_ran e)
 
 module _ (m : Vm) (s : Stores) (l : Lent) (long : trace_short l ≡ false) where
   abbrev w : World
@@ -111,7 +112,7 @@ module _ (m : Vm) (s : Stores) (l : Lent) (long : trace_short l ≡ false) where
   granted u order off fits = rw (order, off, fits)
 
   -- over at once, or refused
-  begun_over : (u : ℕ) (l' : Lent) (x : RunResult) → is_paused x ≡ false → answer_in l' x ≡ begin_answer m s l → answer_in l' x ≡ one_answer m s l u
+  begun_over : (u : ℕ) (l' : Lent) (x : Result Halt Refusal) → is_paused x ≡ false → answer_in l' x ≡ begin_answer m s l → answer_in l' x ≡ one_answer m s l u
   unfolding begin_answer one_answer run_refusal world_of machine_in
   begun_over u l' x o e =
       either_way (run_order m s l)
@@ -131,7 +132,7 @@ module _ (m : Vm) (s : Stores) (l : Lent) (long : trace_short l ≡ false) where
     same : unchanged m ≡ unchanged k
     is : pauses (under_in k l₁) ≡ begin_of w x₀
 
-  begun_paused : (k : Vm) (l₁ : Lent) → RunPost begins m s l (r.Paused k) l₁ → Begun k l₁
+  begun_paused : (k : Vm) (l₁ : Lent) → RunPost begins m s l (Ok (r.Paused k)) l₁ → Begun k l₁
   unfolding run_answer begin_answer answer_in world_of machine_in
   begun_paused k l₁ post =
       let e = post.answer in
@@ -143,10 +144,10 @@ module _ (m : Vm) (s : Stores) (l : Lent) (long : trace_short l ≡ false) where
       record { order = order; off = off; fits = fits; same = sym f.0; is = f.1 })))
       (λ bad. absurd (not_ran (sym (rw bad at e))))
 
-  long_after : {c : RunCall} {k k' : Vm} {l₁ l₂ : Lent} → RunPost c k s l₁ (r.Paused k') l₂ → trace_short l₁ ≡ false → trace_short l₂ ≡ false
+  long_after : {c : RunCall} {k k' : Vm} {l₁ l₂ : Lent} → RunPost c k s l₁ (Ok (r.Paused k')) l₂ → trace_short l₁ ≡ false → trace_short l₂ ≡ false
   long_after {c} {k} {k'} {l₁} post h = still_long s post.rooms (ap length post.backtrace ∙ length_after l₁ (run_answer c k s l₁)) h
 
-  module _ (u : ℕ) (small : u ≤ 0xFFFF_FFFF_FFFF_FFFF) (k : Vm) (l₁ : Lent) (post : RunPost begins m s l (r.Paused k) l₁) where
+  module _ (u : ℕ) (small : u ≤ 0xFFFF_FFFF_FFFF_FFFF) (k : Vm) (l₁ : Lent) (post : RunPost begins m s l (Ok (r.Paused k)) l₁) where
     abbrev start : Begun k l₁
     start = begun_paused k l₁ post
 
@@ -161,7 +162,7 @@ module _ (m : Vm) (s : Stores) (l : Lent) (long : trace_short l ≡ false) where
         let few : ltb 0xFFFF_FFFF_FFFF_FFFF (k.run.given + u) ≡ false = le-ltb 0xFFFF_FFFF_FFFF_FFFF (k.run.given + u) (omega arith) in
         rw (world, post.left.order, long_after post long, few, post.left.run)
 
-    continued_over : (l' : Lent) (x : RunResult) → is_paused x ≡ false → answer_in l' x ≡ continue_answer k s l₁ u → answer_in l' x ≡ one_answer m s l u
+    continued_over : (l' : Lent) (x : Result Halt Refusal) → is_paused x ≡ false → answer_in l' x ≡ continue_answer k s l₁ u → answer_in l' x ≡ one_answer m s l u
     continued_over l' x o e =
         let f = e ∙ continued_so in
         let over = over_ends l' x o f in
@@ -170,7 +171,7 @@ module _ (m : Vm) (s : Stores) (l : Lent) (long : trace_short l ≡ false) where
         ∙ granted u start.order start.off start.fits
 
     -- paused again
-    module _ (k' : Vm) (l₂ : Lent) (more : RunPost (continues u) k s l₁ (r.Paused k') l₂) where
+    module _ (k' : Vm) (l₂ : Lent) (more : RunPost (continues u) k s l₁ (Ok (r.Paused k')) l₂) where
       again : (unchanged k' ≡ unchanged k) × (pauses (under_in k' l₂) ≡ continue_of w (under_in k l₁) u)
       unfolding run_answer answer_in
       again = same_ran (more.answer ∙ continued_so)
@@ -188,7 +189,7 @@ module _ (m : Vm) (s : Stores) (l : Lent) (long : trace_short l ≡ false) where
           ∙ ap (λ (y : Ran). ran (unchanged m) (ends y)) (over_when_abandoned w x₀ u (under_in k l₁) start.is (under_in k' l₂) again.1)
           ∙ granted u start.order start.off start.fits
 
-  pub one_run_is : (u : ℕ) → u ≤ 0xFFFF_FFFF_FFFF_FFFF → {x : RunResult} {l' : Lent} → OneRun m u s l x l' → answer_in l' x ≡ one_answer m s l u
+  pub one_run_is : (u : ℕ) → u ≤ 0xFFFF_FFFF_FFFF_FFFF → {x : Result Halt Refusal} {l' : Lent} → OneRun m u s l x l' → answer_in l' x ≡ one_answer m s l u
   unfolding run_answer
   one_run_is u small {x} {l'} (at_once post over) = begun_over u l' x over post.answer
   one_run_is u small (continued {k} {x} {l₁} {l'} post more over) = continued_over u small k l₁ post l' x over more.answer

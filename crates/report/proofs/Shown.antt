@@ -1,19 +1,17 @@
 -- What a run left can be printed: a value's cells and a fault's backtrace lie inside their stores.
-use Rattle.std.specs.Prelude.{if◌then◌else◌}
+use Rattle.std.specs.Prelude.{if◌then◌else◌, Err, Ok, Result}
 use mathlib.Core.Path.{◌≡◌, refl, sym, ap, ◌∙◌}
 use mathlib.Core.Bool.{Bool, true, false, true≢false, ◌&&◌}
-use mathlib.Core.List.{List, [], ◌∷◌}
+use mathlib.Core.List.{List, ◌∷◌}
 use Prim.Native.Nat.{ℕ, zero, suc, ◌*◌, ◌≤◌, ◌<◌, ◌^◌}
 use native.Mathlib.Omega.{arith}
 use lib.Dec.{eqb, leb}
 use lib.ListN.{length, replicate}
 use borrow.Author.Tests.{leb-true, ltb-false}
-use Rattle.model.specs.declared.Counts.{Counts}
 use Rattle.model.specs.declared.Vm.{Vm}
 use Rattle.model.specs.declared.Value.{Value}
 use Rattle.model.specs.declared.Tally.{Tally}
-use Rattle.model.specs.declared.RunResult.{RunResult}
-use Rattle.model.specs.declared.RunResult.TheVariants as r
+use Rattle.model.specs.declared.Halt.TheVariants as r
 use Rattle.model.specs.Values.{places}
 use Rattle.model.specs.Heap.{heap_of, heap_ok, exact_cells}
 use Rattle.model.specs.Steps.{World}
@@ -33,6 +31,8 @@ use Rattle.machine.proofs.Traced.{length_trace}
 use Rattle.report_lines.specs.Links.{Inside, Shows}
 use Rattle.report.specs.Links.{OneRun, at_once, continued, abandoned}
 use Rattle.report.proofs.OneRun.{one_answer, length_after, one_run_is}
+use Rattle.model.specs.declared.Halt.{Halt}
+use Rattle.model.specs.declared.Refusal.{Refusal}
 
 -- ---- a fault's backtrace has an entry for each frame, and there is room for that many
 
@@ -98,32 +98,32 @@ not_refused true n d e = (refl, cc)
 not_refused false n d e = absurd (let z : ◌≡◌ {A = ℕ} 0 1 = cc in let y : ⊥ = omega arith in y)
 
 module _ (m : Vm) (s : Stores) (l : Lent) (u : ℕ) where
-  value_in_order : {k : Vm} {v : Value} {n : Tally} {l' : Lent} → OneRun m u s l (r.Value k v n) l' → run_order k s l' ≡ true
+  value_in_order : {k : Vm} {v : Value} {n : Tally} {l' : Lent} → OneRun m u s l (Ok (r.Value k v n)) l' → run_order k s l' ≡ true
   value_in_order (at_once post over) = post.left.order
   value_in_order (continued begun post over) = post.left.order
   value_in_order (abandoned begun more post) = post.left.order
 
   -- no call makes the backtrace store longer or shorter
-  kept_by : {c : RunCall} {k : Vm} {l₁ : Lent} {x : RunResult} {l₂ : Lent} → RunPost c k s l₁ x l₂ → length l₂.backtrace ≡ length l₁.backtrace
+  kept_by : {c : RunCall} {k : Vm} {l₁ : Lent} {x : Result Halt Refusal} {l₂ : Lent} → RunPost c k s l₁ x l₂ → length l₂.backtrace ≡ length l₁.backtrace
   kept_by {c} {k} {l₁} post = ap length post.backtrace ∙ length_after l₁ (run_answer c k s l₁)
 
-  as_long : {x : RunResult} {l' : Lent} → OneRun m u s l x l' → length l'.backtrace ≡ length l.backtrace
+  as_long : {x : Result Halt Refusal} {l' : Lent} → OneRun m u s l x l' → length l'.backtrace ≡ length l.backtrace
   as_long (at_once post over) = kept_by post
   as_long (continued begun post over) = kept_by post ∙ kept_by begun
   as_long (abandoned begun more post) = kept_by post ∙ kept_by more ∙ kept_by begun
 
   module _ (bytes : CodeBytes s) (small : u ≤ 0xFFFF_FFFF_FFFF_FFFF) (long : trace_short l ≡ false) (few : length l.backtrace < 2 ^ 32) where
     -- its answer can be printed
-    pub run_shows : (x : RunResult) (l' : Lent) → OneRun m u s l x l' → Shows x l'.cells l'.backtrace
+    pub run_shows : (x : Result Halt Refusal) (l' : Lent) → OneRun m u s l x l' → Shows x l'.cells l'.backtrace
     unfolding answer_in one_answer
     run_shows x l' run = record { inside = on x run; small = omega (arith, as_long run) }
       where
-        on : (x : RunResult) → OneRun m u s l x l' → Inside x (length l'.cells) (length l'.backtrace)
-        on (r.Value k v n) run = cells_there k s l' (value_in_order run)
-        on (r.Continue k n) run = tt
-        on (r.Fault k n did j) run =
+        on : (x : Result Halt Refusal) → OneRun m u s l x l' → Inside x (length l'.cells) (length l'.backtrace)
+        on (Ok (r.Value k v n)) run = cells_there k s l' (value_in_order run)
+        on (Ok (r.Continue k n)) run = tt
+        on (Ok (r.Fault k n did j)) run =
             let is = not_refused (eqb (run_refusal m s l) 0) (run_refusal m s l) (unchanged m) (one_run_is m s l long u small run) in
             let a = run_trace m s l u bytes long is.0 n did (entries_in j 0 l'.backtrace) (ap (λ (y : Ran). y.reply) (sym is.1)) in
             omega (arith, a, length_entries j 0 l'.backtrace, as_long run)
-        on (r.Paused k) run = tt
-        on (r.Refused n) run = tt
+        on (Ok (r.Paused k)) run = tt
+        on (Err n) run = tt

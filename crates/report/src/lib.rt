@@ -7,32 +7,23 @@ ghost use Rattle.std.specs.Prelude.{◌≡◌, true, replicate};
 ghost use Rattle.model.specs.Runs.{root};
 ghost use Rattle.model.specs.Machines.{fresh, start_with};
 ghost use Rattle.model.specs.Reports.{report_of, empty_stores, empty_lent, lister_text, started, runner_text};
-ghost use Rattle.run_ends.specs.Links.{program_lent};
+ghost use Rattle.layout.specs.Lent.{stores_in};
 ghost use Rattle.report_lines.specs.Links.{printed};
 ghost use Rattle.report.specs.Links.{image_text};
 
 use crate::playing::play;
 use image_load::load;
-use model::{Counts, Loaded};
+use layout::lent::ProgramStores;
+use model::{Counts, Refusal};
 use report_lines::{print_refused, print_report};
 use report_listed::list_loaded;
 use run_ends::fresh_vm;
 
 // The report of one run of a program, in stores of its own.
-fn run_program(
-    c: Counts,
-    constants: &[u64],
-    structs: &[u64],
-    functions: &[u64],
-    text: &[u8],
-    main: &[u8],
-    main_places: &[u32],
-    other: &[u8],
-    other_places: &[u32],
-    out: &mut [u8],
-) -> usize
-    ensures { record { count = result; out = out.new } ≡ printed (report_of (fresh c) (program_lent structs.now constants.now functions.now text.now main.now main_places.now other.now other_places.now) (empty_lent (replicate 256 (root 0))) 1000000) out.old }
+fn run_program(c: Counts, stores: &ProgramStores, out: &mut [u8]) -> usize
+    ensures { record { count = result; out = out.new } ≡ printed (report_of (fresh c) (stores_in stores.now) (empty_lent (replicate 256 (root 0))) 1000000) out.old }
 {
+    stores.code_is_bytes();
     let mut stack = [0u64; 2048];
     let mut cells = [0u64; 4096];
     let mut copy = [0u64; 2048];
@@ -41,14 +32,7 @@ fn run_program(
     let r = play(
         m,
         1000000,
-        constants,
-        structs,
-        functions,
-        text,
-        main,
-        main_places,
-        other,
-        other_places,
+        stores,
         &mut stack,
         &mut cells,
         &mut copy,
@@ -58,35 +42,12 @@ fn run_program(
 }
 
 // The report of what was loaded, or why nothing was.
-fn run_loaded(
-    loaded: Loaded,
-    constants: &[u64],
-    structs: &[u64],
-    functions: &[u64],
-    text: &[u8],
-    main: &[u8],
-    main_places: &[u32],
-    other: &[u8],
-    other_places: &[u32],
-    out: &mut [u8],
-) -> usize
-    ensures { record { count = result; out = out.new } ≡ printed (started (start_with loaded (program_lent structs.now constants.now functions.now text.now main.now main_places.now other.now other_places.now) empty_stores (replicate 256 (root 0)))) out.old }
+fn run_loaded(loaded: Result<Counts, Refusal>, stores: &ProgramStores, out: &mut [u8]) -> usize
+    ensures { record { count = result; out = out.new } ≡ printed (started (start_with loaded (stores_in stores.now) empty_stores (replicate 256 (root 0)))) out.old }
 {
     match loaded {
-        Loaded::Done(c) => run_program(
-            c,
-            constants,
-            structs,
-            functions,
-            text,
-            main,
-            main_places,
-            other,
-            other_places,
-            out,
-        ),
-        Loaded::Broken(_) => print_refused(20, out),
-        Loaded::Refused(n) => print_refused(n, out),
+        Ok(c) => run_program(c, stores, out),
+        Err(why) => print_refused(why, out),
     }
 }
 
@@ -95,7 +56,7 @@ fn print_image(runs: bool, image: &[u8], out: &mut [u8]) -> usize
     ensures { record { count = result; out = out.new } ≡ printed (image_text runs image.now) out.old }
 {
     if 16384 < image.len() {
-        return print_refused(22, out);
+        return print_refused(Refusal::OverLimit, out);
     }
     let mut constants = [0u64; 512];
     let mut structs = [0u64; 512];
@@ -117,18 +78,17 @@ fn print_image(runs: bool, image: &[u8], out: &mut [u8]) -> usize
         &mut other_places,
     );
     if runs {
-        return run_loaded(
-            loaded,
-            &constants,
-            &structs,
-            &functions,
-            &text,
-            &main,
-            &main_places,
-            &other,
-            &other_places,
-            out,
-        );
+        let stores = ProgramStores {
+            constants: &constants,
+            structs: &structs,
+            functions: &functions,
+            text: &text,
+            main: &main,
+            main_places: &main_places,
+            other: &other,
+            other_places: &other_places,
+        };
+        return run_loaded(loaded, &stores, out);
     }
     list_loaded(loaded, &functions, &text, &main, &other, out)
 }

@@ -1,30 +1,31 @@
 // One run, by the three calls of a run, on call frames of its own.
 ghost use Rattle.std.specs.Prelude.{◌≡◌};
-ghost use Rattle.run_ends.specs.Links.{program_lent};
+ghost use Rattle.layout.specs.Lent.{stores_in};
 ghost use Rattle.machine.specs.Links.{run_lent};
 ghost use Rattle.report.specs.Links.{is_paused, paused_in, OneRun, PlayPost};
 
+use layout::lent::ProgramStores;
 use machine::{abandon, begin, continue_run};
-use model::{Frame, RunResult, Vm};
+use model::{Frame, Halt, Refusal, Vm};
 
 // Whether a call has left a run paused.
 #[tactic(auto, unfolding(crate::specs::Links::is_paused))]
-fn is_paused(r: RunResult) -> bool
+fn is_paused(r: Result<Halt, Refusal>) -> bool
     ensures { result ≡ is_paused r }
 {
     match r {
-        RunResult::Paused(_) => true,
+        Ok(Halt::Paused(_)) => true,
         _ => false,
     }
 }
 
 // The machine in which it is paused; m, which was called, where it is not.
 #[tactic(auto, unfolding(crate::specs::Links::paused_in))]
-fn paused_in(m: Vm, r: RunResult) -> Vm
+fn paused_in(m: Vm, r: Result<Halt, Refusal>) -> Vm
     ensures { result ≡ paused_in m r }
 {
     match r {
-        RunResult::Paused(k) => k,
+        Ok(Halt::Paused(k)) => k,
         _ => m,
     }
 }
@@ -33,77 +34,24 @@ fn paused_in(m: Vm, r: RunResult) -> Vm
 fn one_run(
     m: Vm,
     units: u64,
-    constants: &[u64],
-    structs: &[u64],
-    functions: &[u64],
-    text: &[u8],
-    main: &[u8],
-    main_places: &[u32],
-    other: &[u8],
-    other_places: &[u32],
+    stores: &ProgramStores,
     stack: &mut [u64],
     cells: &mut [u64],
     frames: &mut [Frame],
     copy: &mut [u64],
     backtrace: &mut [u64],
-) -> RunResult
-    ensures { OneRun m units (program_lent structs.now constants.now functions.now text.now main.now main_places.now other.now other_places.now) (run_lent stack.old cells.old frames.old copy.old backtrace.old) result (run_lent stack.new cells.new frames.new copy.new backtrace.new) }
+) -> Result<Halt, Refusal>
+    ensures { OneRun m units (stores_in stores.now) (run_lent stack.old cells.old frames.old copy.old backtrace.old) result (run_lent stack.new cells.new frames.new copy.new backtrace.new) }
 {
-    let begun = begin(
-        m,
-        constants,
-        structs,
-        functions,
-        text,
-        main,
-        main_places,
-        other,
-        other_places,
-        stack,
-        cells,
-        frames,
-        copy,
-    );
+    let begun = begin(m, stores, stack, cells, frames, copy);
     let paused = is_paused(begun);
     if paused {
         let k = paused_in(m, begun);
-        let part = continue_run(
-            k,
-            units,
-            constants,
-            structs,
-            functions,
-            text,
-            main,
-            main_places,
-            other,
-            other_places,
-            stack,
-            cells,
-            frames,
-            copy,
-            backtrace,
-        );
+        let part = continue_run(k, units, stores, stack, cells, frames, copy, backtrace);
         let again = is_paused(part);
         if again {
             let last = paused_in(k, part);
-            let end = abandon(
-                last,
-                constants,
-                structs,
-                functions,
-                text,
-                main,
-                main_places,
-                other,
-                other_places,
-                stack,
-                cells,
-                frames,
-                copy,
-                backtrace,
-            );
-            return end;
+            return abandon(last, stores, stack, cells, frames, copy, backtrace);
         }
         return part;
     }
@@ -114,20 +62,13 @@ fn one_run(
 pub fn play(
     m: Vm,
     units: u64,
-    constants: &[u64],
-    structs: &[u64],
-    functions: &[u64],
-    text: &[u8],
-    main: &[u8],
-    main_places: &[u32],
-    other: &[u8],
-    other_places: &[u32],
+    stores: &ProgramStores,
     stack: &mut [u64],
     cells: &mut [u64],
     copy: &mut [u64],
     backtrace: &mut [u64],
-) -> RunResult
-    ensures { PlayPost m units (program_lent structs.now constants.now functions.now text.now main.now main_places.now other.now other_places.now) (λ frames. run_lent stack.old cells.old frames copy.old backtrace.old) result (λ frames. run_lent stack.new cells.new frames copy.new backtrace.new) }
+) -> Result<Halt, Refusal>
+    ensures { PlayPost m units (stores_in stores.now) (λ frames. run_lent stack.old cells.old frames copy.old backtrace.old) result (λ frames. run_lent stack.new cells.new frames copy.new backtrace.new) }
 {
     let first = Frame {
         function: 0,
@@ -136,22 +77,5 @@ pub fn play(
         entered: 0,
     };
     let mut frames = [first; 256];
-    let answer = one_run(
-        m,
-        units,
-        constants,
-        structs,
-        functions,
-        text,
-        main,
-        main_places,
-        other,
-        other_places,
-        stack,
-        cells,
-        &mut frames,
-        copy,
-        backtrace,
-    );
-    answer
+    one_run(m, units, stores, stack, cells, &mut frames, copy, backtrace)
 }

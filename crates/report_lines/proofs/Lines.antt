@@ -5,15 +5,12 @@ use Prim.Native.Nat.{ℕ, zero, suc, ◌+◌, ◌*◌, ◌≤◌, ◌<◌}
 use native.Mathlib.Omega.{arith}
 use native.Mathlib.Numerals.{add-one}
 use lib.ListN.{length, get_or}
-use denote.Enum.Declared.{tag_of}
-use types.Run.{OneOf, miss}
-use Rattle.model.specs.contracts.RunResult.{the_type}
+use Rattle.model.specs.Answers.{refusal_number}
 use Rattle.model.specs.declared.Frame.{Frame}
 use Rattle.model.specs.declared.Value.{Value}
 use Rattle.model.specs.declared.Vm.{Vm}
 use Rattle.model.specs.declared.Tally.{Tally}
-use Rattle.model.specs.declared.RunResult.{RunResult}
-use Rattle.model.specs.declared.RunResult.TheVariants as r
+use Rattle.model.specs.declared.Halt.TheVariants as r
 use Rattle.model.specs.Basics.{ascii}
 use Rattle.model.specs.Heap.{heap_of}
 use Rattle.model.specs.Listings.{decimal}
@@ -24,6 +21,9 @@ use Rattle.value.proofs.Stores.{length_vals}
 use Rattle.report_lines.specs.Links.{Shows, answer_lines}
 use Rattle.printing.specs.Links.{Put}
 use Rattle.printing.proofs.Puts.{is, within, both, nothing}
+use Rattle.std.specs.Prelude.{Err, Ok, Result}
+use Rattle.model.specs.declared.Halt.{Halt}
+use Rattle.model.specs.declared.Refusal.{Refusal}
 
 -- ---- one line
 
@@ -34,9 +34,9 @@ joined : (a b c d e f g : List ℕ) → ((a ++ b) ++ (c ++ d)) ++ (e ++ f ++ g) 
 joined a b c d e f g = simp append_assoc
 
 module _ {s₀ s₁ : List ℕ} {i₀ i₁ : ℕ} where
-  pub refused_is : (n : ℕ) → Put 29 (ascii "refused " ++ decimal n ++ ascii "\n") s₀ i₀ s₁ i₁ → Put 29 (refused_line n) s₀ i₀ s₁ i₁
+  pub refused_is : (n k : ℕ) → n ≡ k → Put 29 (ascii "refused " ++ decimal n ++ ascii "\n") s₀ i₀ s₁ i₁ → Put 29 (refused_line k) s₀ i₀ s₁ i₁
   unfolding refused_line
-  refused_is n p = p
+  refused_is n k e p = rw (← e) p
 
   module _ {s₂ : List ℕ} {i₂ : ℕ} where
     pub spent_is : (n k : ℕ) → Put 27 (ascii "spent " ++ decimal n ++ ascii "\n") s₀ i₀ s₁ i₁ → Put 27 (ascii "stack " ++ decimal k ++ ascii "\n") s₁ i₁ s₂ i₂
@@ -98,11 +98,11 @@ module _ {n : ℕ} {b s : List ℕ} {at : ℕ} {s' : List ℕ} {i j : ℕ} (h : 
 
 -- ---- what an answer speaks of lies inside the stores
 
-module _ {x : RunResult} {cells backtrace : List ℕ} (h : Shows x cells backtrace) where
-  pub cells_inside : {m : Vm} {u : Value} {n : Tally} → x ≡ r.Value m u n → 2 * m.cells ≤ length cells
+module _ {x : Result Halt Refusal} {cells backtrace : List ℕ} (h : Shows x cells backtrace) where
+  pub cells_inside : {m : Vm} {u : Value} {n : Tally} → x ≡ Ok (r.Value m u n) → 2 * m.cells ≤ length cells
   cells_inside e = rw e at h.inside
 
-  pub entries_inside : {m : Vm} {k : ℕ} {n : Tally} {j : ℕ} → x ≡ r.Fault m k n j → 3 * j ≤ length backtrace
+  pub entries_inside : {m : Vm} {k : ℕ} {n : Tally} {j : ℕ} → x ≡ Ok (r.Fault m k n j) → 3 * j ≤ length backtrace
   entries_inside e = rw e at h.inside
 
 -- ---- a report, whatever a host lends besides the cells and the backtrace
@@ -110,7 +110,7 @@ module _ {x : RunResult} {cells backtrace : List ℕ} (h : Shows x cells backtra
 abbrev lent : List ℕ → List ℕ → List ℕ → List Frame → List ℕ → Lent
 lent cells backtrace stack frames copy = record { stack = stack; cells = cells; frames = frames; copy = copy; backtrace = backtrace }
 
-abbrev Reported : List ℕ → List ℕ → RunResult → List ℕ → List ℕ → ℕ → Type 0
+abbrev Reported : List ℕ → List ℕ → Result Halt Refusal → List ℕ → List ℕ → ℕ → Type 0
 Reported cells backtrace x s t i =
     (stack : List ℕ) (frames : List Frame) (copy : List ℕ)
     → Put (128 + 22 * length backtrace) (answer_lines (answer_in (lent cells backtrace stack frames copy) x)) s 0 t i
@@ -120,30 +120,26 @@ spent_there : (m : Vm) (n : Tally) (l : Lent) {s s' : List ℕ} {i j : ℕ}
 unfolding spent_lines machine_in
 spent_there m n l p = rw (length_vals m.stack l.stack) p
 
-pub paused_report : (cells backtrace : List ℕ) (x : RunResult) → OneOf (3 ∷ []) (tag_of the_type x) → (s : List ℕ) → Reported cells backtrace x s s 0
+pub paused_report : (cells backtrace : List ℕ) {x : Result Halt Refusal} {m : Vm} → x ≡ Ok (r.Paused m) → (s : List ℕ) → Reported cells backtrace x s s 0
 unfolding answer_lines answer_in
-paused_report cells backtrace (r.Value m v n) o s = absurd (miss (3 ∷ []) 0 tt o)
-paused_report cells backtrace (r.Continue m n) o s = absurd (miss (3 ∷ []) 1 tt o)
-paused_report cells backtrace (r.Fault m k n j) o s = absurd (miss (3 ∷ []) 2 tt o)
-paused_report cells backtrace (r.Paused m) o s = λ stack frames copy. within (nothing s 0) (128 + 22 * length backtrace) (omega arith)
-paused_report cells backtrace (r.Refused n) o s = absurd (miss (3 ∷ []) 4 tt o)
+paused_report cells backtrace e s = λ stack frames copy. rw e (within (nothing s 0) (128 + 22 * length backtrace) (omega arith))
 
-module _ (cells backtrace : List ℕ) {x : RunResult} {s₀ s₁ : List ℕ} {i₁ : ℕ} where
-  pub refused_report : {n : ℕ} → x ≡ r.Refused n → Put 29 (refused_line n) s₀ 0 s₁ i₁ → Reported cells backtrace x s₀ s₁ i₁
+module _ (cells backtrace : List ℕ) {x : Result Halt Refusal} {s₀ s₁ : List ℕ} {i₁ : ℕ} where
+  pub refused_report : {e : Refusal} → x ≡ Err e → Put 29 (refused_line (refusal_number e)) s₀ 0 s₁ i₁ → Reported cells backtrace x s₀ s₁ i₁
   unfolding answer_lines answer_in
   refused_report e p stack frames copy = rw e (within p (128 + 22 * length backtrace) (omega arith))
 
   module _ (m : Vm) (n : Tally) {s₂ : List ℕ} {i₂ : ℕ} (q : Put 54 (ascii "spent " ++ decimal n.spent ++ ascii "\nstack " ++ decimal m.stack ++ ascii "\n") s₁ i₁ s₂ i₂) where
-    pub value_report : {u : Value} → x ≡ r.Value m u n → Put 71 (ascii "value " ++ value_text (heap_of m.cells cells) u ++ ascii "\n") s₀ 0 s₁ i₁
+    pub value_report : {u : Value} → x ≡ Ok (r.Value m u n) → Put 71 (ascii "value " ++ value_text (heap_of m.cells cells) u ++ ascii "\n") s₀ 0 s₁ i₁
         → Reported cells backtrace x s₀ s₂ i₂
     unfolding answer_lines ran_lines answer_in reply_lines machine_in
     value_report e p stack frames copy = rw e (within (both p (spent_there m n (lent cells backtrace stack frames copy) q)) (128 + 22 * length backtrace) (omega arith))
 
-    pub continue_report : x ≡ r.Continue m n → Put 9 (ascii "continue\n") s₀ 0 s₁ i₁ → Reported cells backtrace x s₀ s₂ i₂
+    pub continue_report : x ≡ Ok (r.Continue m n) → Put 9 (ascii "continue\n") s₀ 0 s₁ i₁ → Reported cells backtrace x s₀ s₂ i₂
     unfolding answer_lines ran_lines answer_in reply_lines
     continue_report e p stack frames copy = rw e (within (both p (spent_there m n (lent cells backtrace stack frames copy) q)) (128 + 22 * length backtrace) (omega arith))
 
-    pub fault_report : {k j : ℕ} → x ≡ r.Fault m k n j → 3 * j ≤ length backtrace → {s₃ : List ℕ} {i₃ : ℕ}
+    pub fault_report : {k j : ℕ} → x ≡ Ok (r.Fault m k n j) → 3 * j ≤ length backtrace → {s₃ : List ℕ} {i₃ : ℕ}
         → Put 27 (ascii "fault " ++ decimal k ++ ascii "\n") s₀ 0 s₁ i₁ → Put (66 * j) (entry_lines (entries_in j 0 backtrace)) s₂ i₂ s₃ i₃
         → Reported cells backtrace x s₀ s₃ i₃
     unfolding answer_lines ran_lines answer_in reply_lines

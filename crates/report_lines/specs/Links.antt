@@ -1,23 +1,24 @@
 -- What a report reads, its lines, and what is printed of a text.
-use Rattle.std.specs.Prelude.{List, [], ℕ, ◌*◌, ◌≤◌, ◌<◌, ◌^◌, leb, length, if◌then◌else◌}
-use Rattle.model.specs.declared.RunResult.{RunResult}
-use Rattle.model.specs.declared.RunResult.TheVariants.{Value, Continue, Fault, Paused, Refused}
+use Rattle.std.specs.Prelude.{List, [], ℕ, ◌*◌, ◌≤◌, ◌<◌, ◌^◌, leb, length, if◌then◌else◌, Err, Ok, Result}
+use Rattle.model.specs.declared.Halt.TheVariants.{Value, Continue, Fault, Paused}
 use Rattle.model.specs.Values.{places}
 use Rattle.model.specs.Emission.{written}
 use Rattle.model.specs.Runs.{ends, pauses}
 use Rattle.model.specs.Machines.{RunAnswer, ran, refused}
 use Rattle.model.specs.Reports.{ran_lines, refused_line}
+use Rattle.model.specs.declared.Halt.{Halt}
+use Rattle.model.specs.declared.Refusal.{Refusal}
 
 -- what an answer speaks of lies inside stores of these lengths: the cells of a value, the entries of a backtrace
-abbrev pub Inside : RunResult → ℕ → ℕ → Type 0
-Inside (Value m v n) cells backtrace = 2 * m.cells ≤ cells
-Inside (Continue m n) cells backtrace = Unit
-Inside (Fault m k n j) cells backtrace = 3 * j ≤ backtrace
-Inside (Paused m) cells backtrace = Unit
-Inside (Refused n) cells backtrace = Unit
+abbrev pub Inside : Result Halt Refusal → ℕ → ℕ → Type 0
+Inside (Ok (Value m v n)) cells backtrace = 2 * m.cells ≤ cells
+Inside (Ok (Continue m n)) cells backtrace = Unit
+Inside (Ok (Fault m k n j)) cells backtrace = 3 * j ≤ backtrace
+Inside (Ok (Paused m)) cells backtrace = Unit
+Inside (Err n) cells backtrace = Unit
 
 -- an answer that can be printed: its backtrace's store is small enough to count the bytes
-pub record Shows (r : RunResult) (cells backtrace : List ℕ) : Type 0 where
+pub record Shows (r : Result Halt Refusal) (cells backtrace : List ℕ) : Type 0 where
   pub inside : Inside r (length cells) (length backtrace)
   pub small : length backtrace < 2 ^ 32
 

@@ -1,6 +1,7 @@
 // A run as the runner prints it.
 ghost use Rattle.std.specs.Prelude.{List, ◌++◌, ℕ, ◌+◌, ◌*◌, ◌≤◌, ◌<◌, ◌^◌, length};
 ghost use Rattle.model.specs.declared.Frame.{Frame};
+ghost use Rattle.model.specs.Answers.{refusal_number};
 ghost use Rattle.model.specs.Basics.{ascii};
 ghost use Rattle.model.specs.Heap.{heap_of};
 ghost use Rattle.model.specs.Listings.{decimal};
@@ -10,7 +11,7 @@ ghost use Rattle.report_lines.specs.Links.{Shows, answer_lines};
 ghost use Rattle.printing.specs.Links.{Put};
 
 use crate::values::put_value;
-use model::{RunResult, Value};
+use model::{Halt, Refusal, Value};
 use printing::{put_byte, put_count, put_line, put_text};
 
 // The units spent, and how many values are on the stack.
@@ -37,21 +38,19 @@ fn put_entries(n: usize, backtrace: &[u64], out: &mut [u8], at: usize) -> usize
     requires { (3 * n ≤ length backtrace.now) × (at + 66 * n < 2 ^ 64) }
     ensures { Put (66 * n) (entry_lines (entries_in n 0 backtrace.now)) out.old at out.new result }
 {
-    let mut i = 0;
     let mut next = at;
-    while i < n {
+    for i in 0..n {
         let j = 3 * i;
         next = put_entry(backtrace[j], backtrace[j + 1], backtrace[j + 2], out, next);
-        i += 1;
     }
     next
 }
 
 // A refusal.
-pub fn put_refused(n: u8, out: &mut [u8]) -> usize
-    ensures { Put 29 (refused_line n) out.old 0 out.new result }
+pub fn put_refused(why: Refusal, out: &mut [u8]) -> usize
+    ensures { Put 29 (refused_line (refusal_number why)) out.old 0 out.new result }
 {
-    put_line(b"refused ", n as usize, out, 0)
+    put_line(b"refused ", usize::from(why.number()), out, 0)
 }
 
 // A value's line.
@@ -65,25 +64,30 @@ fn put_answer(v: Value, cells: &[u64], used: usize, out: &mut [u8]) -> usize
 }
 
 // What a run answered, with the stores as it left them. A run that is paused has no lines yet.
-pub fn put_report(r: RunResult, cells: &[u64], backtrace: &[u64], out: &mut [u8]) -> usize
+pub fn put_report(
+    r: Result<Halt, Refusal>,
+    cells: &[u64],
+    backtrace: &[u64],
+    out: &mut [u8],
+) -> usize
     requires { Shows r cells.now backtrace.now }
     ensures { (stack : List ℕ) (frames : List Frame) (copy : List ℕ) → Put (128 + 22 * length backtrace.now) (answer_lines (answer_in (record { stack = stack; cells = cells.now; frames = frames; copy = copy; backtrace = backtrace.now }) r)) out.old 0 out.new result }
 {
     match r {
-        RunResult::Value(m, v, did) => {
+        Ok(Halt::Value(m, v, did)) => {
             let next = put_answer(v, cells, m.cells, out);
             put_spent(did.spent, m.stack, out, next)
         }
-        RunResult::Continue(m, did) => {
+        Ok(Halt::Continue(m, did)) => {
             let next = put_text(b"continue\n", out, 0);
             put_spent(did.spent, m.stack, out, next)
         }
-        RunResult::Fault(m, k, did, j) => {
+        Ok(Halt::Fault(m, k, did, j)) => {
             let spent = put_line(b"fault ", k as usize, out, 0);
             let next = put_spent(did.spent, m.stack, out, spent);
             put_entries(j, backtrace, out, next)
         }
-        RunResult::Paused(_) => 0,
-        RunResult::Refused(n) => put_refused(n, out),
+        Ok(Halt::Paused(_)) => 0,
+        Err(why) => put_refused(why, out),
     }
 }

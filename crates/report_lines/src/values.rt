@@ -15,10 +15,8 @@ fn header_at(cells: &[u64], used: usize, p: usize) -> Header
     requires { 2 * used ≤ length cells.now }
     ensures { result ≡ head_in (heap_of used cells.now) p }
 {
-    if p < used {
-        if words::is_header(cells, p) {
-            return words::read_header(cells, p);
-        }
+    if p < used && words::is_header(cells, p) {
+        return words::read_header(cells, p);
     }
     Header {
         count: 0,
@@ -46,12 +44,8 @@ pub fn put_value(v: Value, cells: &[u64], used: usize, out: &mut [u8], at: usize
             let next = put_text(b"scalar ", out, at);
             write_hex(16, words::to_word(x), out, next)
         }
-        Value::Boolean(b) => {
-            if b {
-                return put_text(b"true", out, at);
-            }
-            put_text(b"false", out, at)
-        }
+        Value::Boolean(true) => put_text(b"true", out, at),
+        Value::Boolean(false) => put_text(b"false", out, at),
         Value::String(_, n) => put_count(b"string ", n as usize, out, at),
         Value::FunctionReference(_, n) => put_count(b"function ", n as usize, out, at),
         Value::List(p) => {

@@ -1,13 +1,11 @@
 -- What can be listed.
-use Rattle.std.specs.Prelude.{◌≡◌, true}
-use Rattle.model.specs.declared.Loaded.{Loaded}
-use Rattle.model.specs.declared.Loaded.TheVariants as l
-use Rattle.model.specs.declared.RunResult.TheVariants.{Refused}
+use Rattle.std.specs.Prelude.{◌≡◌, true, Err, Ok, Result}
 use Rattle.model.specs.Stores.{Stores}
 use Rattle.model.specs.Loading.{list_order}
+use Rattle.model.specs.declared.Counts.{Counts}
+use Rattle.model.specs.declared.Refusal.{Refusal}
 
 -- a program that was loaded can be listed
-abbrev pub Listable : Loaded → Stores → Type 0
-Listable (l.Done c) s = list_order c s ≡ true
-Listable (l.Broken i) s = Unit
-Listable (l.Refused n) s = Unit
+abbrev pub Listable : Result Counts Refusal → Stores → Type 0
+Listable (Ok c) s = list_order c s ≡ true
+Listable (Err e) s = Unit

@@ -11,7 +11,7 @@ ghost use Rattle.report_lines.specs.Links.{printed};
 ghost use Rattle.report_listed.specs.Links.{Listable};
 
 use listing::disassemble;
-use model::{Counts, Loaded, Told};
+use model::{Counts, Refusal};
 use report_lines::print_refused;
 
 // The listing of a program in good order, or its refusal.
@@ -26,21 +26,16 @@ fn list_program<'a>(
     requires { (rest : Stores) → list_order c (lent rest functions.now text.now main.now other.now) ≡ true }
     ensures { (rest : Stores) → record { count = result; out = out.new } ≡ printed (listed_text (listing_of (program_in c (lent rest functions.now text.now main.now other.now)))) out.old }
 {
-    let told = disassemble(c, functions, text, main, other, out);
-    match told {
-        Told::Number(n) => n,
-        Told::Refused(n) => {
-            if n == 17 {
-                return 0;
-            }
-            print_refused(n, out)
-        }
+    match disassemble(c, functions, text, main, other, out) {
+        Ok(n) => n,
+        Err(Refusal::ResultTooShort) => 0,
+        Err(why) => print_refused(why, out),
     }
 }
 
 // The listing of what was loaded, or why nothing was.
 pub fn list_loaded<'a>(
-    loaded: Loaded,
+    loaded: Result<Counts, Refusal>,
     functions: &[u64],
     text: &[u8],
     main: &'a [u8],
@@ -51,8 +46,7 @@ pub fn list_loaded<'a>(
     ensures { (rest : Stores) → record { count = result; out = out.new } ≡ printed (loaded_text loaded (lent rest functions.now text.now main.now other.now)) out.old }
 {
     match loaded {
-        Loaded::Done(c) => list_program(c, functions, text, main, other, out),
-        Loaded::Broken(_) => print_refused(20, out),
-        Loaded::Refused(n) => print_refused(n, out),
+        Ok(c) => list_program(c, functions, text, main, other, out),
+        Err(why) => print_refused(why, out),
     }
 }

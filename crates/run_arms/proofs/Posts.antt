@@ -1,5 +1,5 @@
 -- What an arm ensures, for each way out of an arm.
-use Rattle.std.specs.Prelude.{if◌then◌else◌}
+use Rattle.std.specs.Prelude.{if◌then◌else◌, Err, Ok, Result}
 use mathlib.Core.Path.{◌≡◌, refl, sym, ap, ◌∙◌}
 use mathlib.Core.Option.{Option, none, some}
 use mathlib.Core.Bool.{Bool, true, false, not, ◌&&◌}
@@ -16,14 +16,6 @@ use Rattle.model.specs.declared.Value.{Value}
 use Rattle.model.specs.declared.Value.TheVariants.{Scalar, Boolean, FunctionReference}
 use Rattle.model.specs.declared.Fault.{Fault}
 use Rattle.model.specs.declared.Fault.TheVariants as f
-use Rattle.model.specs.declared.Found.{Found}
-use Rattle.model.specs.declared.Found.TheVariants.{Got, Bad}
-use Rattle.value.specs.declared.pops.Scalars.{Scalars}
-use Rattle.value.specs.declared.pops.Scalars.TheVariants as sc
-use Rattle.value.specs.declared.pops.Booleans.{Booleans}
-use Rattle.value.specs.declared.pops.Booleans.TheVariants as bo
-use Rattle.model.specs.declared.Told.{Told}
-use Rattle.model.specs.declared.Told.TheVariants.{Number, Refused}
 use Rattle.model.specs.declared.Frame.{Frame}
 use Rattle.model.specs.Values.{kind, vals, popping, popping_scalar, popping_boolean, if_scalar, if_boolean, if_reference, text_at}
 use Rattle.model.specs.Scalars.{arith_of, finite, result_of, zero_divisor, order_of}
@@ -41,6 +33,7 @@ use Rattle.run_arms.specs.declared.Answer.TheVariants.{Went, Returned, Call, Bac
 use Rattle.run_arms.specs.Links.{Around, around, state_of, outcome_of, Within, Suits, ArmPost}
 use Rattle.run_arms.proofs.Keeping.{place, fewer, topped}
 use Rattle.run_arms.proofs.Rules.{no_top, top, no_scalars, scalars, two_scalars, no_booleans, booleans, two_booleans, cut_vals, is_reference_lem}
+use Rattle.model.specs.declared.Refusal.{Refusal}
 
 -- the machine with n values on its stack, at position i, and with the last result in the words a and b
 abbrev pub with_words : ℕ → ℕ → ℕ → ℕ → Going → Going
@@ -113,7 +106,7 @@ module _ {k : Fixed} {g : Going} {s : List ℕ} (w : Within k g s) where
 -- ---- pushes
 
 -- the rule pushes what it looks up
-pub record Looks (u : World) (rule : State → Outcome) (look : State → Found) : Type 0 where
+pub record Looks (u : World) (rule : State → Outcome) (look : State → Result Value Fault) : Type 0 where
   pub is : (t : State) → rule t ≡ on_found (look t) t (λ v. pushing u v t)
 
 module _ (u : World) where
@@ -140,12 +133,12 @@ module _ {k : Fixed} {g : Going} {s : List ℕ} (w : Within k g s) {u : World} (
   pushes h p e = settled w p (omega arith) h e (λ x ar. rw (length_vals g.sp s, c.stack_room, lt-ltb g.sp k.slots h))
 
   -- what is looked up is pushed
-  module _ {rule : State → Outcome} {look : State → Found} (o : Looks u rule look) where
-    pub missing : {n : Fault} → ((x : List ℕ) (ar : Around) → look (state_of k g s x ar) ≡ Bad n) → ArmPost rule k g s (Stopped g n) s
+  module _ {rule : State → Outcome} {look : State → (Result Value Fault)} (o : Looks u rule look) where
+    pub missing : {n : Fault} → ((x : List ℕ) (ar : Around) → look (state_of k g s x ar) ≡ Err n) → ArmPost rule k g s (Stopped g n) s
     unfolding on_found
     missing e = refused w (λ x ar h. o.is _ ∙ rw (e x ar))
 
-    pub found : {v : Value} {r : Answer} {t : List ℕ} → ((x : List ℕ) (ar : Around) → look (state_of k g s x ar) ≡ Got v) → ArmPost (pushing u v) k g s r t
+    pub found : {v : Value} {r : Answer} {t : List ℕ} → ((x : List ℕ) (ar : Around) → look (state_of k g s x ar) ≡ Ok v) → ArmPost (pushing u v) k g s r t
         → ArmPost rule k g s r t
     unfolding on_found
     found e p = same_rule (λ x ar. o.is _ ∙ rw (e x ar)) p
@@ -213,12 +206,12 @@ pub jumps_if_false : (a : ℕ) → One (jump_if_false_step a) if_boolean (jump_u
 unfolding jump_if_false_step popping_boolean
 jumps_if_false a = record { is = λ t. refl }
 
-module _ {k : Fixed} {g : Going} {s : List ℕ} (w : Within k g s) {r : Found} (p : r ≡ pop_of (vals g.sp s)) where
+module _ {k : Fixed} {g : Going} {s : List ℕ} (w : Within k g s) {r : Result Value Fault} (p : r ≡ pop_of (vals g.sp s)) where
   module _ {B : Type 0} {rule : State → Outcome} {pick : Value → (B → Outcome) → Outcome → Outcome} {act : B → List Value → State → Outcome} (o : One rule pick act) where
-    pub one_none : {n : Fault} → r ≡ Bad n → ArmPost rule k g s (Stopped g f.TooFewValues) s
+    pub one_none : {n : Fault} → r ≡ Err n → ArmPost rule k g s (Stopped g f.TooFewValues) s
     one_none e = refused w (λ x ar h. o.is _ ∙ no_top g.sp s p _ _ e)
 
-    module _ {v : Value} (e : r ≡ Got v) where
+    module _ {v : Value} (e : r ≡ Ok v) where
       pub one_wrong : ((j : B → Outcome) (d : Outcome) → pick v j d ≡ d) → ArmPost rule k g s (Stopped g (f.WrongKind v)) s
       one_wrong h = refused w (λ x ar d. o.is _ ∙ top g.sp s p _ _ e ∙ h _ _)
 
@@ -226,7 +219,7 @@ module _ {k : Fixed} {g : Going} {s : List ℕ} (w : Within k g s) {r : Found} (
           → rule (state_of k g s x ar) ≡ act y (vals (g.sp - 1) s) (state_of k g s x ar)
       acts h x ar = o.is _ ∙ top g.sp s p _ _ e ∙ h _ _
 
-  module _ {v : Value} (e : r ≡ Got v) where
+  module _ {v : Value} (e : r ≡ Ok v) where
     pub one_replaced : {B : Type 0} {rule : State → Outcome} {pick : Value → (B → Outcome) → Outcome → Outcome} {new : B → Value} {y : B} {u : Value} {t : List ℕ}
         → One rule pick (in_place new) → ((j : B → Outcome) (d : Outcome) → pick v j d ≡ j y) → u ≡ new y → Written s (g.sp - 1) (item u) t
         → ArmPost rule k g s (Went g) t
@@ -252,27 +245,27 @@ unfolding call_callable_step
 calls_named u n = record { is = λ t. refl }
 
 -- what a search for a name tells
-told_some : (o : Option ℕ) (r : Told) (k : ℕ) → r ≡ told_name o → r ≡ Number k → o ≡ some k
+told_some : (o : Option ℕ) (r : Result ℕ Refusal) (k : ℕ) → r ≡ told_name o → r ≡ Ok k → o ≡ some k
 unfolding told_name
 told_some none r k e f = absurd (let z : ◌≡◌ {A = ℕ} 0 1 = cc in let y : ⊥ = omega arith in y)
 told_some (some i) r k e f = let z : i ≡ k = cc in ap some z
 
-told_none : (o : Option ℕ) (r : Told) (k : ℕ) → r ≡ told_name o → r ≡ Refused k → o ≡ none
+told_none : (o : Option ℕ) (r : Result ℕ Refusal) (k : Refusal) → r ≡ told_name o → r ≡ Err k → o ≡ none
 unfolding told_name
 told_none none r k e f = refl
 told_none (some i) r k e f = absurd (let z : ◌≡◌ {A = ℕ} 0 1 = cc in let y : ⊥ = omega arith in y)
 
-module _ {k : Fixed} {g : Going} {s : List ℕ} (w : Within k g s) {r : Found} (p : r ≡ pop_of (vals g.sp s)) {v : Value} (e : r ≡ Got v) {o m : ℕ} (h : v ≡ FunctionReference o m)
-    (u : World) (n : ℕ) {q : Told} (d : q ≡ told_name (function_named (text_at u.text o m) u.functions)) where
+module _ {k : Fixed} {g : Going} {s : List ℕ} (w : Within k g s) {r : Result Value Fault} (p : r ≡ pop_of (vals g.sp s)) {v : Value} (e : r ≡ Ok v) {o m : ℕ} (h : v ≡ FunctionReference o m)
+    (u : World) (n : ℕ) {q : Result ℕ Refusal} (d : q ≡ told_name (function_named (text_at u.text o m) u.functions)) where
   by_name : (x : List ℕ) (ar : Around)
       → call_callable_step u n (state_of k g s x ar) ≡ enter_named u n (vals (g.sp - 1) s) (state_of k g s x ar) (function_named (text_at u.text o m) u.functions)
   by_name x ar = acts w p (calls_named u n) e (λ j d. is_reference_lem h (λ o m. j (o, m)) d) x ar
 
-  pub no_name : {t : ℕ} → q ≡ Refused t → ArmPost (call_callable_step u n) k g s (Stopped g f.NoFunction) s
+  pub no_name : {t : Refusal} → q ≡ Err t → ArmPost (call_callable_step u n) k g s (Stopped g f.NoFunction) s
   unfolding enter_named
   no_name z = refused w (λ x ar c. by_name x ar ∙ rw (told_none _ _ _ d z))
 
-  pub calls_name : {i : ℕ} {a : Answer} → q ≡ Number i → ArmPost (enter u i n (vals (g.sp - 1) s)) k g s a s → ArmPost (call_callable_step u n) k g s a s
+  pub calls_name : {i : ℕ} {a : Answer} → q ≡ Ok i → ArmPost (enter u i n (vals (g.sp - 1) s)) k g s a s → ArmPost (call_callable_step u n) k g s a s
   unfolding enter_named
   calls_name z b = same_rule (λ x ar. by_name x ar ∙ rw (told_some _ _ _ d z)) b
 
@@ -285,8 +278,8 @@ module _ {k : Fixed} {g : Going} {s : List ℕ} (w : Within k g s) where
       → ArmPost rule k g s (Went (with_count n g)) t
   two_replaced l d e q h = settled w q (omega arith) (omega (arith, w.count)) (omega arith) (λ x ar. rw d (h x ar))
 
-  module _ {r : Scalars} (p : r ≡ scalars_of (vals g.sp s)) where
-    module _ {n : Fault} (e : r ≡ sc.Bad n) where
+  module _ {r : Result (Float × Float) Fault} (p : r ≡ scalars_of (vals g.sp s)) where
+    module _ {n : Fault} (e : r ≡ Err n) where
       pub arithmetic_bad : (u : World) (a : Arith) → ArmPost (arithmetic_step u a) k g s (Stopped g n) s
       unfolding arithmetic_step
       arithmetic_bad u a = refused w (λ x ar h. no_scalars g.sp s p _ _ e)
@@ -295,7 +288,7 @@ module _ {k : Fixed} {g : Going} {s : List ℕ} (w : Within k g s) where
       unfolding ordering_step
       ordering_bad c = refused w (λ x ar h. no_scalars g.sp s p _ _ e)
 
-    module _ {x y : Float} (e : r ≡ sc.Two x y) where
+    module _ {x y : Float} (e : r ≡ Ok (x, y)) where
       pub zero_divided : (u : World) (a : Arith) {b : Bool} → b ≡ zero_divisor a y → b ≡ true → ArmPost (arithmetic_step u a) k g s (Stopped g f.ZeroDivisor) s
       unfolding arithmetic_step
       zero_divided u a d z = refused w (λ x ar h. scalars g.sp s p _ _ e ∙ rw (← d, z))
@@ -324,12 +317,12 @@ module _ {k : Fixed} {g : Going} {s : List ℕ} (w : Within k g s) where
         unfolding ordering_step
         ordered o h q = two_replaced (two_scalars g.sp s p e) c d q (λ x ar. scalars g.sp s p _ _ e ∙ rw h)
 
-  module _ {r : Booleans} (p : r ≡ booleans_of (vals g.sp s)) (j : Bool → Bool → Bool) where
-    pub logic_bad : {n : Fault} → r ≡ bo.Bad n → ArmPost (logic_step j) k g s (Stopped g n) s
+  module _ {r : Result (Bool × Bool) Fault} (p : r ≡ booleans_of (vals g.sp s)) (j : Bool → Bool → Bool) where
+    pub logic_bad : {n : Fault} → r ≡ Err n → ArmPost (logic_step j) k g s (Stopped g n) s
     unfolding logic_step
     logic_bad e = refused w (λ x ar h. no_booleans g.sp s p _ _ e)
 
-    pub joined : {x y z : Bool} {i n : ℕ} {t : List ℕ} → r ≡ bo.Two x y → i ≡ g.sp - 2 → n ≡ g.sp - 1 → z ≡ j x y → Written s i (item (Boolean z)) t
+    pub joined : {x y z : Bool} {i n : ℕ} {t : List ℕ} → r ≡ Ok (x, y) → i ≡ g.sp - 2 → n ≡ g.sp - 1 → z ≡ j x y → Written s i (item (Boolean z)) t
         → ArmPost (logic_step j) k g s (Went (with_count n g)) t
     unfolding logic_step
     joined e c d h q = two_replaced (two_booleans g.sp s p e) c d q (λ x ar. booleans g.sp s p _ _ e ∙ rw h)
@@ -340,12 +333,12 @@ some_caller : (n : ℕ) → (n ≡ 0 → ⊥) → 0 < n
 some_caller zero z = absurd (z refl)
 some_caller (suc n) z = omega arith
 
-module _ {k : Fixed} {g : Going} {s : List ℕ} (w : Within k g s) {r : Found} (p : r ≡ pop_of (vals g.sp s)) where
-  pub returns_none : {t : Fault} → r ≡ Bad t → ArmPost return_step k g s (Stopped g f.TooFewValues) s
+module _ {k : Fixed} {g : Going} {s : List ℕ} (w : Within k g s) {r : Result Value Fault} (p : r ≡ pop_of (vals g.sp s)) where
+  pub returns_none : {t : Fault} → r ≡ Err t → ArmPost return_step k g s (Stopped g f.TooFewValues) s
   unfolding return_step
   returns_none e = refused w (λ x ar d. no_top g.sp s p _ _ e)
 
-  module _ {v : Value} (e : r ≡ Got v) where
+  module _ {v : Value} (e : r ≡ Ok v) where
     -- with one frame
     module _ {n : ℕ} (z : g.callers ≡ 0) (c : n ≡ g.sp - 1) where
       abbrev at_root : Answer

@@ -10,13 +10,6 @@ use Rattle.model.specs.declared.Value.{Value}
 use Rattle.model.specs.declared.Value.TheVariants as v
 use Rattle.model.specs.declared.Fault.{Fault}
 use Rattle.model.specs.declared.Fault.TheVariants as f
-use Rattle.model.specs.declared.Found.{Found}
-use Rattle.model.specs.declared.Found.TheVariants as got
-use Rattle.value.specs.declared.pops.Scalars.{Scalars}
-use Rattle.value.specs.declared.pops.Scalars.TheVariants as sc
-use Rattle.value.specs.declared.pops.Booleans.{Booleans}
-use Rattle.value.specs.declared.pops.Booleans.TheVariants as bo
-use Rattle.model.specs.declared.Told.{Told}
 use Rattle.model.specs.Values.{if_reference, text_at, value_of, value_at, vals, values_from, popping, popping_scalar, popping_boolean, if_scalar, if_boolean}
 use Rattle.model.specs.Programs.{newest_from, function_named}
 use Rattle.model.specs.Stores.{Stores, start, size, pack, part}
@@ -28,32 +21,34 @@ use Rattle.layout.specs.Links.{names_lent}
 use Rattle.run_arms.specs.declared.Fixed.{Fixed}
 use Rattle.value.specs.Links.{last_in, booleans_of, pop_of, scalars_of}
 use Rattle.run_arms.specs.Links.{Named}
+use Rattle.std.specs.Prelude.{Err, Ok, Result}
+use Rattle.model.specs.declared.Refusal.{Refusal}
 
 -- ---- one value is popped
 
-module _ (n : ℕ) (s : List ℕ) {r : Found} (p : r ≡ pop_of (vals n s)) {A : Type 0} (e : Fault → A) (k : Value → List Value → A) where
-  pub no_top : {t : Fault} → r ≡ got.Bad t → popping (vals n s) e k ≡ e f.TooFewValues
+module _ (n : ℕ) (s : List ℕ) {r : Result Value Fault} (p : r ≡ pop_of (vals n s)) {A : Type 0} (e : Fault → A) (k : Value → List Value → A) where
+  pub no_top : {t : Fault} → r ≡ Err t → popping (vals n s) e k ≡ e f.TooFewValues
   unfolding popping
   no_top h = rw (none p h)
 
-  pub top : {x : Value} → r ≡ got.Got x → popping (vals n s) e k ≡ k x (vals (n - 1) s)
+  pub top : {x : Value} → r ≡ Ok x → popping (vals n s) e k ≡ k x (vals (n - 1) s)
   unfolding popping
   top h = rw (got_top n s p h)
 
 -- ---- two are
 
-module _ (n : ℕ) (s : List ℕ) {r : Scalars} (p : r ≡ scalars_of (vals n s)) {A : Type 0} (e : Fault → A) (k : Float → Float → List Value → A) where
-  pub no_scalars : {t : Fault} → r ≡ sc.Bad t → popping_scalar (vals n s) e (λ y q. popping_scalar q e (λ x q. k x y q)) ≡ e t
+module _ (n : ℕ) (s : List ℕ) {r : Result (Float × Float) Fault} (p : r ≡ scalars_of (vals n s)) {A : Type 0} (e : Fault → A) (k : Float → Float → List Value → A) where
+  pub no_scalars : {t : Fault} → r ≡ Err t → popping_scalar (vals n s) e (λ y q. popping_scalar q e (λ x q. k x y q)) ≡ e t
   no_scalars h = on_scalars_lem (vals n s) e k ∙ rw (← p, h)
 
-  pub scalars : {x y : Float} → r ≡ sc.Two x y → popping_scalar (vals n s) e (λ y q. popping_scalar q e (λ x q. k x y q)) ≡ k x y (vals (n - 2) s)
+  pub scalars : {x y : Float} → r ≡ Ok (x, y) → popping_scalar (vals n s) e (λ y q. popping_scalar q e (λ x q. k x y q)) ≡ k x y (vals (n - 2) s)
   scalars h = on_scalars_lem (vals n s) e k ∙ rw (← p, h, vals_drop 2 n s)
 
-module _ (n : ℕ) (s : List ℕ) {r : Booleans} (p : r ≡ booleans_of (vals n s)) {A : Type 0} (e : Fault → A) (k : Bool → Bool → List Value → A) where
-  pub no_booleans : {t : Fault} → r ≡ bo.Bad t → popping_boolean (vals n s) e (λ y q. popping_boolean q e (λ x q. k x y q)) ≡ e t
+module _ (n : ℕ) (s : List ℕ) {r : Result (Bool × Bool) Fault} (p : r ≡ booleans_of (vals n s)) {A : Type 0} (e : Fault → A) (k : Bool → Bool → List Value → A) where
+  pub no_booleans : {t : Fault} → r ≡ Err t → popping_boolean (vals n s) e (λ y q. popping_boolean q e (λ x q. k x y q)) ≡ e t
   no_booleans h = on_booleans_lem (vals n s) e k ∙ rw (← p, h)
 
-  pub booleans : {x y : Bool} → r ≡ bo.Two x y → popping_boolean (vals n s) e (λ y q. popping_boolean q e (λ x q. k x y q)) ≡ k x y (vals (n - 2) s)
+  pub booleans : {x y : Bool} → r ≡ Ok (x, y) → popping_boolean (vals n s) e (λ y q. popping_boolean q e (λ x q. k x y q)) ≡ k x y (vals (n - 2) s)
   booleans h = on_booleans_lem (vals n s) e k ∙ rw (← p, h, vals_drop 2 n s)
 
 -- the place of the left one
@@ -79,7 +74,7 @@ lone_boolean (v.FunctionReference o n) t = refl
 lone_boolean (v.List p) t = refl
 lone_boolean (v.StructInstance p) t = refl
 
-pub two_scalars : (n : ℕ) (s : List ℕ) {r : Scalars} {x y : Float} → r ≡ scalars_of (vals n s) → r ≡ sc.Two x y → 2 ≤ n
+pub two_scalars : (n : ℕ) (s : List ℕ) {r : Result (Float × Float) Fault} {x y : Float} → r ≡ scalars_of (vals n s) → r ≡ Ok (x, y) → 2 ≤ n
 unfolding vals popping popping_scalar
 two_scalars zero s p h = let z : false ≡ true = scalars 0 s p (λ t. false) (λ x y q. true) h in let w : ◌≡◌ {A = ℕ} 0 1 = cc in omega arith
 two_scalars (suc zero) s p h =
@@ -88,7 +83,7 @@ two_scalars (suc zero) s p h =
     let w : ◌≡◌ {A = ℕ} 0 1 = cc in omega arith
 two_scalars (suc (suc n)) s p h = omega arith
 
-pub two_booleans : (n : ℕ) (s : List ℕ) {r : Booleans} {x y : Bool} → r ≡ booleans_of (vals n s) → r ≡ bo.Two x y → 2 ≤ n
+pub two_booleans : (n : ℕ) (s : List ℕ) {r : Result (Bool × Bool) Fault} {x y : Bool} → r ≡ booleans_of (vals n s) → r ≡ Ok (x, y) → 2 ≤ n
 unfolding vals popping popping_boolean
 two_booleans zero s p h = let z : false ≡ true = booleans 0 s p (λ t. false) (λ x y q. true) h in let w : ◌≡◌ {A = ℕ} 0 1 = cc in omega arith
 two_booleans (suc zero) s p h =
@@ -101,30 +96,30 @@ two_booleans (suc (suc n)) s p h = omega arith
 
 module _ (n : ℕ) (s : List ℕ) (a : ℕ) where
   module _ {cs : List Value} (e : cs ≡ values_from n 0 s) where
-    pub no_constant : n ≤ a → constant_of cs a ≡ got.Bad f.OutOfRange
+    pub no_constant : n ≤ a → constant_of cs a ≡ Err f.OutOfRange
     unfolding constant_of
     no_constant h = rw (e, length_values n 0 s, le-ltb a n h)
 
-    pub constant : {x : Value} → a < n → x ≡ value_at s a → constant_of cs a ≡ got.Got x
+    pub constant : {x : Value} → a < n → x ≡ value_at s a → constant_of cs a ≡ Ok x
     unfolding constant_of
     constant h d =
         let z : 0 + a ≡ a = omega arith in
         rw (e, length_values n 0 s, lt-ltb a n h, get_d_values n 0 s a (v.Boolean false) h, z, d)
 
-  pub no_slot : n ≤ a → slot_of (vals n s) a ≡ got.Bad f.OutOfRange
+  pub no_slot : n ≤ a → slot_of (vals n s) a ≡ Err f.OutOfRange
   unfolding slot_of
   no_slot h = rw (length_vals n s, le-ltb a n h)
 
-  pub slot : {x : Value} → a < n → x ≡ value_at s a → slot_of (vals n s) a ≡ got.Got x
+  pub slot : {x : Value} → a < n → x ≡ value_at s a → slot_of (vals n s) a ≡ Ok x
   unfolding slot_of
   slot h d = rw (length_vals n s, lt-ltb a n h, vals_slot n s a (v.Boolean false) h, d)
 
 module _ (k a : ℕ) where
-  pub no_last_lem : k ≡ 7 → last_of (last_in k a) ≡ got.Bad f.NoLastResult
+  pub no_last_lem : k ≡ 7 → last_of (last_in k a) ≡ Err f.NoLastResult
   unfolding last_of last_in
   no_last_lem h = rw (eq-eqb k 7 h)
 
-  pub last : {x : Value} → (k ≡ 7 → ⊥) → x ≡ value_of k a → last_of (last_in k a) ≡ got.Got x
+  pub last : {x : Value} → (k ≡ 7 → ⊥) → x ≡ value_of k a → last_of (last_in k a) ≡ Ok x
   unfolding last_of last_in
   last h d = rw (ne_eqb k 7 h, d)
 
@@ -150,7 +145,7 @@ part_packed t o n h =
 
 -- what the search was told is what the rule looks for
 module _ (u : World) (k : Fixed) (fs t : List ℕ) (rest : Stores) (e : Named k (names_lent rest fs t) u) (o n : ℕ) where
-  pub named_as : {q : Told} {name : List ℕ} {w : ℕ} → o < 2 ^ 32 → w ≡ pack o n → name ≡ part t w
+  pub named_as : {q : Result ℕ Refusal} {name : List ℕ} {w : ℕ} → o < 2 ^ 32 → w ≡ pack o n → name ≡ part t w
       → q ≡ told_name (newest_from 0 name (names_from k.functions 0 (names_lent rest fs t)))
       → q ≡ told_name (function_named (text_at u.text o n) u.functions)
   unfolding function_named names_lent

@@ -8,7 +8,7 @@ ghost use Rattle.layout.specs.Links.{names_lent};
 
 use crate::{Answer, Completed, Fixed, Going};
 use layout::reads::{lesser, pack, part};
-use model::{Fault, Found, Told, Value};
+use model::{Fault, Value};
 use program::names::newest_function;
 use value::{pops, words};
 
@@ -53,14 +53,14 @@ pub fn call_callable(
     ensures { (w : World) (rest : Stores) → Suits k w → Named k (names_lent rest functions.now text.now) w → ArmPost (call_callable_step w n) k g stack.now result stack.now }
 {
     let sp = g.sp;
-    let Found::Got(v) = pops::pop(stack, sp) else {
+    let Ok(v) = pops::pop(stack, sp) else {
         return Answer::Stopped(g, Fault::TooFewValues);
     };
     let Value::FunctionReference(o, m) = v else {
         return Answer::Stopped(g, Fault::WrongKind(v));
     };
     let name = part(text, pack(o as usize, m as usize));
-    let Told::Number(i) = newest_function(k.functions, name, functions, text) else {
+    let Ok(i) = newest_function(k.functions, name, functions, text) else {
         return Answer::Stopped(g, Fault::NoFunction);
     };
     let below = sp - 1;
@@ -73,7 +73,7 @@ pub fn go_back(k: Fixed, g: Going, stack: &mut [u64]) -> Answer
     ensures { ArmPost return_step k g stack.old result stack.new }
 {
     let sp = g.sp;
-    let Found::Got(v) = pops::pop(stack, sp) else {
+    let Ok(v) = pops::pop(stack, sp) else {
         return Answer::Stopped(g, Fault::TooFewValues);
     };
     let below = sp - 1;

@@ -1,6 +1,6 @@
 -- What an arm ensures that is lent the cells, for each way out of an arm: equality, lists and structs.
-use Rattle.std.specs.Prelude.{if◌then◌else◌}
-use mathlib.Core.Path.{◌≡◌, refl, sym, ◌∙◌}
+use Rattle.std.specs.Prelude.{if◌then◌else◌, Err, None, Ok, Option, Result, Some}
+use mathlib.Core.Path.{◌≡◌, refl, sym, ◌∙◌, ap}
 use mathlib.Core.Bool.{Bool, true, false, not}
 use mathlib.Core.List.{List, ◌∷◌}
 use Prim.Native.Nat.{ℕ, zero, suc, ◌+◌, ◌-◌, ◌*◌, ◌≤◌, ◌<◌}
@@ -13,8 +13,6 @@ use Rattle.model.specs.declared.Value.{Value}
 use Rattle.model.specs.declared.Value.TheVariants as v
 use Rattle.model.specs.declared.Fault.{Fault}
 use Rattle.model.specs.declared.Fault.TheVariants as f
-use Rattle.model.specs.declared.Found.{Found}
-use Rattle.model.specs.declared.Found.TheVariants.{Got, Bad}
 use Rattle.model.specs.Values.{places, vals, value_at, if_struct}
 use Rattle.model.specs.Heap.{item, heap_of, field_of, list_elements, placed_below}
 use Rattle.model.specs.Equality.{Same, same, same_of}
@@ -22,10 +20,6 @@ use Rattle.model.specs.Steps.{World, State, Outcome, went, faulted, short, with_
 use Rattle.value.specs.Links.{Written, pop_of}
 use Rattle.value.proofs.Stores.{length_vals, vals_drop}
 use Rattle.value.proofs.Operands.{got_some}
-use Rattle.cells.specs.declared.Built.{Built}
-use Rattle.cells.specs.declared.Built.TheVariants as bu
-use Rattle.cells.specs.declared.Verdict.{Verdict}
-use Rattle.cells.specs.declared.Verdict.TheVariants.{Done, Out}
 use Rattle.cells.specs.Links.{elements_of, TopPre, Took, BuildPost, FieldPre, verdict, EqualPre}
 use Rattle.cells.proofs.Frame.{grown_of}
 use Rattle.cells.proofs.Stands.{length_heap, heap_cut}
@@ -110,7 +104,7 @@ arm_block c p = stands c (λ ar. refl) p
 
 -- ---- what the values and the cells are known to be
 
-got_at : (n : ℕ) (s : List ℕ) {p : Found} {u : Value} → p ≡ pop_of (vals n s) → p ≡ Got u → u ≡ value_at s (n - 1)
+got_at : (n : ℕ) (s : List ℕ) {p : Result Value Fault} {u : Value} → p ≡ pop_of (vals n s) → p ≡ Ok u → u ≡ value_at s (n - 1)
 unfolding pop_of vals
 got_at zero s e h = cc
 got_at (suc n) s e h = let z : suc n - 1 ≡ n = omega arith in rw z (cc)
@@ -124,15 +118,15 @@ module _ {m : ℕ} {k : Fixed} {g : Going} {s x : List ℕ} (b : Blocks m k g s 
   unfolding places
   cells_fit = let z = b.cells.count in omega arith
 
-  popped_placed : (n : ℕ) → n ≤ g.sp → {p : Found} {u : Value} → p ≡ pop_of (vals n s) → p ≡ Got u → placed_below m (heap_of g.used x) g.used u ≡ true
+  popped_placed : (n : ℕ) → n ≤ g.sp → {p : Result Value Fault} {u : Value} → p ≡ pop_of (vals n s) → p ≡ Ok u → placed_below m (heap_of g.used x) g.used u ≡ true
   popped_placed n l e h = rw (got_at n s e h) (b.placed (n - 1) (let z = got_some n s e h in omega arith))
 
 -- ---- equality
 
 -- what is done by a verdict, which says how many units are left then
-abbrev by_verdict : (Bool → Bool) → List Value → State → Verdict → Outcome
-by_verdict t r u (Done a l) = went (with_stack (v.Boolean (t a) ∷ r) (paid (u.units - l) u))
-by_verdict t r u Out = short
+abbrev by_verdict : (Bool → Bool) → List Value → State → Option (Bool × ℕ) → Outcome
+by_verdict t r u (Some (a, l)) = went (with_stack (v.Boolean (t a) ∷ r) (paid (u.units - l) u))
+by_verdict t r u None = short
 
 on_verdict : (t : Bool → Bool) (r : List Value) (u : State) (z : Same) → on_same t r u z ≡ by_verdict t r u (verdict u.units z)
 unfolding on_same verdict
@@ -140,17 +134,17 @@ on_verdict t r u (same a n) = on (leb n u.units) refl
   where
     on : (y : Bool) → leb n u.units ≡ y
         → (if y then went (with_stack (v.Boolean (t a) ∷ r) (paid n u)) else short)
-        ≡ by_verdict t r u (if y then Done a (u.units - n) else Out)
+        ≡ by_verdict t r u (if y then Some (a, u.units - n) else None)
     on true e = let z : u.units - (u.units - n) ≡ n = let l : n ≤ u.units = leb-true _ _ e in omega arith in rw z
     on false e = refl
 
 -- no more units are left than there were
-pub left_of_lem : (u : ℕ) (z : Same) {d : Verdict} {a : Bool} {l : ℕ} → d ≡ verdict u z → d ≡ Done a l → l ≤ u
+pub left_of_lem : (u : ℕ) (z : Same) {d : Option (Bool × ℕ)} {a : Bool} {l : ℕ} → d ≡ verdict u z → d ≡ Some (a, l) → l ≤ u
 unfolding verdict
 left_of_lem u (same b n) {d} {a} {l} e o = of (leb n u) (sym o ∙ e)
   where
-    of : (y : Bool) → Done a l ≡ (if y then Done b (u - n) else Out) → l ≤ u
-    of true e = let z : l ≡ u - n = cc in omega arith
+    of : (y : Bool) → ◌≡◌ {A = Option (Bool × ℕ)} (Some (a, l)) (if y then Some (b, u - n) else None) → l ≤ u
+    of true e = let q : ◌≡◌ {A = Bool × ℕ} (a, l) (b, u - n) = cc in let z : l ≡ u - n = ap (λ (p : Bool × ℕ). p.1) q in omega arith
     of false e = absurd (let z : ◌≡◌ {A = ℕ} 0 1 = cc in let y : ⊥ = omega arith in y)
 
 -- the two equalities of the rules
@@ -163,17 +157,17 @@ module _ (u : World) (st : State) where
   unfolding verdict_by
   not_equal_is = refl
 
-module _ (text : List ℕ) {k : Fixed} {g : Going} {s x : List ℕ} (b : Blocks (length text) k g s x) {p : Found} (right : p ≡ pop_of (vals g.sp s)) where
-  pub equal_none : (t : Bool → Bool) (u : World) {n : Fault} → p ≡ Bad n → BlockPost (equal_step t u) k g s x (Stopped g f.TooFewValues) s x
+module _ (text : List ℕ) {k : Fixed} {g : Going} {s x : List ℕ} (b : Blocks (length text) k g s x) {p : Result Value Fault} (right : p ≡ pop_of (vals g.sp s)) where
+  pub equal_none : (t : Bool → Bool) (u : World) {n : Fault} → p ≡ Err n → BlockPost (equal_step t u) k g s x (Stopped g f.TooFewValues) s x
   unfolding equal_step
   equal_none t u e = arm_block b.cells (refused b.stack (λ x ar h. no_top g.sp s right _ _ e))
 
-  module _ {y : Value} (ey : p ≡ Got y) {q : Found} (left : q ≡ pop_of (vals (g.sp - 1) s)) where
-    pub equal_one : (t : Bool → Bool) (u : World) {n : Fault} → q ≡ Bad n → BlockPost (equal_step t u) k g s x (Stopped g f.TooFewValues) s x
+  module _ {y : Value} (ey : p ≡ Ok y) {q : Result Value Fault} (left : q ≡ pop_of (vals (g.sp - 1) s)) where
+    pub equal_one : (t : Bool → Bool) (u : World) {n : Fault} → q ≡ Err n → BlockPost (equal_step t u) k g s x (Stopped g f.TooFewValues) s x
     unfolding equal_step
     equal_one t u e = arm_block b.cells (refused b.stack (λ x ar h. top g.sp s right _ _ ey ∙ no_top (g.sp - 1) s left _ _ e))
 
-    module _ {z : Value} (ez : q ≡ Got z) where
+    module _ {z : Value} (ez : q ≡ Ok z) where
       pub equal_pre : EqualPre text x g.used z y
       equal_pre = record {
         room = cells_room b;
@@ -182,7 +176,7 @@ module _ (text : List ℕ) {k : Fixed} {g : Going} {s x : List ℕ} (b : Blocks 
         right = popped_placed b g.sp (omega arith) right ey;
       }
 
-      module _ {d : Verdict} (e : d ≡ verdict (k.given - g.spent) (same_of text (heap_of g.used x) z y)) (t : Bool → Bool) (u : World) (h : u.text ≡ text) where
+      module _ {d : Option (Bool × ℕ)} (e : d ≡ verdict (k.given - g.spent) (same_of text (heap_of g.used x) z y)) (t : Bool → Bool) (u : World) (h : u.text ≡ text) where
         judged : (ar : Around) → equal_step t u (state_of k g s x ar) ≡ by_verdict t (vals (g.sp - 1 - 1) s) (state_of k g s x ar) d
         unfolding equal_step
         judged ar = top g.sp s right _ _ ey ∙ top (g.sp - 1) s left _ _ ez ∙ rw (h, e) (on_verdict t _ _ _)
@@ -198,7 +192,7 @@ module _ (text : List ℕ) {k : Fixed} {g : Going} {s x : List ℕ} (b : Blocks 
         still : (e : ℕ) → Within k (with_spent e g) s
         still e = fewer b.stack (omega arith) refl
 
-        pub equal_out : d ≡ Out → BlockPost (equal_step t u) k g s x (Short g) s x
+        pub equal_out : d ≡ None → BlockPost (equal_step t u) k g s x (Short g) s x
         equal_out o = record {
           means = λ ar h. sym (judged ar ∙ rw o);
           within = b.stack;
@@ -209,7 +203,7 @@ module _ (text : List ℕ) {k : Fixed} {g : Going} {s x : List ℕ} (b : Blocks 
           unwritten = (refl, refl);
         }
 
-        pub equal_done : {a c : Bool} {l : ℕ} {w : List ℕ} → d ≡ Done a l → c ≡ t a → Written s (g.sp - 1 - 1) (item (v.Boolean c)) w
+        pub equal_done : {a c : Bool} {l : ℕ} {w : List ℕ} → d ≡ Some (a, l) → c ≡ t a → Written s (g.sp - 1 - 1) (item (v.Boolean c)) w
             → BlockPost (equal_step t u) k g s x (Went (with_count (g.sp - 1) (with_spent (k.given - l) g))) w x
         equal_done {c = c} {l = l} o i q =
             let some = got_some (g.sp - 1) s left ez in
@@ -229,11 +223,11 @@ reads : (a : ℕ) → One (field_step a) if_struct (λ p r u. on_found (field_of
 unfolding field_step
 reads a = record { is = λ t. refl }
 
-module _ {m : ℕ} {k : Fixed} {g : Going} {s x : List ℕ} (b : Blocks m k g s x) {p : Found} (popped : p ≡ pop_of (vals g.sp s)) (a : ℕ) where
-  pub field_none : {n : Fault} → p ≡ Bad n → BlockPost (field_step a) k g s x (Stopped g f.TooFewValues) s x
+module _ {m : ℕ} {k : Fixed} {g : Going} {s x : List ℕ} (b : Blocks m k g s x) {p : Result Value Fault} (popped : p ≡ pop_of (vals g.sp s)) (a : ℕ) where
+  pub field_none : {n : Fault} → p ≡ Err n → BlockPost (field_step a) k g s x (Stopped g f.TooFewValues) s x
   field_none e = arm_block b.cells (one_none b.stack popped (reads a) e)
 
-  module _ {y : Value} (e : p ≡ Got y) where
+  module _ {y : Value} (e : p ≡ Ok y) where
     pub field_wrong : ((j : ℕ → Outcome) (d : Outcome) → if_struct y j d ≡ d) → BlockPost (field_step a) k g s x (Stopped g (f.WrongKind y)) s x
     field_wrong h = arm_block b.cells (one_wrong b.stack popped (reads a) e h)
 
@@ -241,16 +235,16 @@ module _ {m : ℕ} {k : Fixed} {g : Going} {s x : List ℕ} (b : Blocks m k g s 
       pub field_pre : FieldPre x g.used i
       field_pre = record { texts = m; room = cells_room b; good = b.good; placed = rw h at (popped_placed b g.sp (omega arith) popped e) }
 
-      module _ {d : Found} (o : d ≡ field_of (heap_of g.used x) i a) where
+      module _ {d : Result Value Fault} (o : d ≡ field_of (heap_of g.used x) i a) where
         looked : (ar : Around)
             → field_step a (state_of k g s x ar) ≡ on_found d (state_of k g s x ar) (λ y. went (with_stack (y ∷ vals (g.sp - 1) s) (state_of k g s x ar)))
         looked ar = (reads a).is _ ∙ top g.sp s popped _ _ e ∙ is_struct_lem h _ _ ∙ rw o
 
-        pub field_bad : {n : Fault} → d ≡ Bad n → BlockPost (field_step a) k g s x (Stopped g n) s x
+        pub field_bad : {n : Fault} → d ≡ Err n → BlockPost (field_step a) k g s x (Stopped g n) s x
         unfolding on_found
         field_bad {n} c = stands b.cells (λ ar. looked ar ∙ rw c) (refused b.stack {rule = faulted n} (λ x ar h. refl))
 
-        pub field_got : {u : Value} {w : List ℕ} → d ≡ Got u → Written s (g.sp - 1) (item u) w → BlockPost (field_step a) k g s x (Went g) w x
+        pub field_got : {u : Value} {w : List ℕ} → d ≡ Ok u → Written s (g.sp - 1) (item u) w → BlockPost (field_step a) k g s x (Went g) w x
         unfolding on_found
         field_got {u} c q =
             let z = got_some g.sp s popped e in
@@ -289,18 +283,18 @@ module _ {m : ℕ} {k : Fixed} {g : Going} {s x : List ℕ} (b : Blocks m k g s 
     held = λ i h. record { texts = m; placed = b.placed i h };
   }
 
-  module _ {list : Bool} {j : ℕ} {d : Built} {y : List ℕ} (post : BuildPost list s g.sp n j x g.used d y) where
-    pub build_bad : (u : World) → u.cell_room ≡ places 2 x → {t : Fault} → d ≡ bu.Bad t
+  module _ {list : Bool} {j : ℕ} {d : Result ℕ Fault} {y : List ℕ} (post : BuildPost list s g.sp n j x g.used d y) where
+    pub build_bad : (u : World) → u.cell_room ≡ places 2 x → {t : Fault} → d ≡ Err t
         → BlockPost (build_step u (built_by list) (elements_of list) j n) k g s x (Stopped g t) s y
     unfolding build_step on_built
     build_bad u room {t} e =
-        let q : BuildPost list s g.sp n j x g.used (bu.Bad t) y = rw e at post in
+        let q : BuildPost list s g.sp n j x g.used (Err t) y = rw e at post in
         rw q.after
         (stands b.cells (λ ar. rw (length_vals g.sp s, le-ltb g.sp n enough, room, ← q.means))
         (refused b.stack {rule = faulted t} (λ x ar h. refl)))
 
-    module _ {c : ℕ} (e : d ≡ bu.Taken c) where
-      new : BuildPost list s g.sp n j x g.used (bu.Taken c) y
+    module _ {c : ℕ} (e : d ≡ Ok c) where
+      new : BuildPost list s g.sp n j x g.used (Ok c) y
       new = rw e at post
 
       took : Took g.used n c x y

@@ -8,8 +8,7 @@ ghost use Rattle.model.specs.Steps.{World, equal_step, build_step, struct_step, 
 ghost use Rattle.cells.specs.Links.{elements_of, BuildPost};
 ghost use Rattle.run_arms.specs.Links.{Within, Suits, Blocks, BlockPost, verdict_by, built_by};
 
-use cells::{Built, Verdict};
-use model::{Fault, Found, Value};
+use model::{Fault, Value};
 use run_arms::{Answer, Fixed, Going, pushes};
 use value::{pops, words};
 
@@ -17,7 +16,7 @@ use value::{pops, words};
 fn told(not: bool, same: bool) -> bool
     ensures { result ≡ verdict_by not same }
 {
-    if not { !same } else { same }
+    same != not
 }
 
 // Equal, and NotEqual where `not` is true.
@@ -26,27 +25,25 @@ pub fn equal(k: Fixed, g: Going, not: bool, text: &[u8], cells: &[u64], stack: &
     ensures { (w : World) → w.text ≡ text.now → BlockPost (equal_step (verdict_by not) w) k g stack.old cells.now result stack.new cells.now }
 {
     let sp = g.sp;
-    let Found::Got(y) = pops::pop(stack, sp) else {
+    let Ok(y) = pops::pop(stack, sp) else {
         return Answer::Stopped(g, Fault::TooFewValues);
     };
     let count = sp - 1;
-    let Found::Got(x) = pops::pop(stack, count) else {
+    let Ok(x) = pops::pop(stack, count) else {
         return Answer::Stopped(g, Fault::TooFewValues);
     };
     let units = k.given - g.spent;
-    match cells::equal(text, cells, g.used, x, y, units) {
-        Verdict::Out => Answer::Short(g),
-        Verdict::Done(same, left) => {
-            let v = told(not, same);
-            words::write_value(stack, count - 1, Value::Boolean(v));
-            let spent = k.given - left;
-            Answer::Went(Going {
-                sp: count,
-                spent,
-                ..g
-            })
-        }
-    }
+    let Some((same, left)) = cells::equal(text, cells, g.used, x, y, units) else {
+        return Answer::Short(g);
+    };
+    let v = told(not, same);
+    words::write_value(stack, count - 1, Value::Boolean(v));
+    let spent = k.given - left;
+    Answer::Went(Going {
+        sp: count,
+        spent,
+        ..g
+    })
 }
 
 // The list or struct whose header is at p.
@@ -61,13 +58,20 @@ fn named(list: bool, p: u32) -> Value
 }
 
 // The list or struct whose cells are written, in place of the n values on top that it was built of; or the fault.
-fn replace(list: bool, n: usize, built: Built, k: Fixed, g: Going, stack: &mut [u64]) -> Answer
+fn replace(
+    list: bool,
+    n: usize,
+    built: Result<usize, Fault>,
+    k: Fixed,
+    g: Going,
+    stack: &mut [u64],
+) -> Answer
     requires { (Within k g stack.old) × ((n ≤ g.sp) × (g.used < 0x1_0000_0000)) }
     ensures { (w : World) (t number : ℕ) (x y : List ℕ) → Suits k w → w.cell_room ≡ places 2 x → Blocks t k g stack.old x → BuildPost list stack.old g.sp n number x g.used built y → BlockPost (build_step w (built_by list) (elements_of list) number n) k g stack.old x result stack.new y }
 {
     match built {
-        Built::Bad(f) => Answer::Stopped(g, f),
-        Built::Taken(u) => {
+        Err(f) => Answer::Stopped(g, f),
+        Ok(u) => {
             let sp = g.sp - n;
             let popped = Going { sp, used: u, ..g };
             let v = named(list, g.used as u32);
@@ -118,15 +122,15 @@ pub fn access_struct_field(k: Fixed, g: Going, a: usize, cells: &[u64], stack: &
     ensures { BlockPost (field_step a) k g stack.old cells.now result stack.new cells.now }
 {
     let sp = g.sp;
-    let Found::Got(v) = pops::pop(stack, sp) else {
+    let Ok(v) = pops::pop(stack, sp) else {
         return Answer::Stopped(g, Fault::TooFewValues);
     };
     let Value::StructInstance(p) = v else {
         return Answer::Stopped(g, Fault::WrongKind(v));
     };
     match cells::field(cells, g.used, p as usize, a) {
-        Found::Bad(f) => Answer::Stopped(g, f),
-        Found::Got(x) => {
+        Err(f) => Answer::Stopped(g, f),
+        Ok(x) => {
             words::write_value(stack, sp - 1, x);
             Answer::Went(Going { sp, ..g })
         }

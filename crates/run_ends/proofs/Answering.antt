@@ -1,5 +1,5 @@
 -- What a run answers.
-use Rattle.std.specs.Prelude.{if◌then◌else◌}
+use Rattle.std.specs.Prelude.{if◌then◌else◌, None, Option, Some}
 use mathlib.Core.Path.{◌≡◌, refl, sym}
 use mathlib.Core.Bool.{Bool, true, false, true≢false}
 use mathlib.Core.List.{List}
@@ -9,12 +9,9 @@ use lib.Dec.{eqb}
 use borrow.Author.Tests.{eq-eqb, ne_eqb, le-leb, lt-leb}
 use Rattle.model.specs.declared.Vm.{Vm}
 use Rattle.model.specs.declared.Value.{Value}
-use Rattle.model.specs.declared.Last.{Last}
-use Rattle.model.specs.declared.Last.TheVariants.{Nothing, Is}
 use Rattle.model.specs.declared.Tally.{Tally}
 use Rattle.model.specs.declared.Frame.{Frame}
-use Rattle.model.specs.declared.RunResult.{RunResult}
-use Rattle.model.specs.declared.RunResult.TheVariants as r
+use Rattle.model.specs.declared.Halt.TheVariants as r
 use Rattle.model.specs.Values.{payload_at, value_of}
 use Rattle.model.specs.Stores.{size, code_word}
 use Rattle.model.specs.Runs.{root}
@@ -23,20 +20,21 @@ use Rattle.run_arms.specs.declared.Going.{Going}
 use Rattle.value.specs.Links.{last_in}
 use Rattle.run_steps.specs.Links.{answer_in}
 use Rattle.run_ends.specs.Links.{vm_with, vm_begun, begun_with, vm_ended, tally_of, Answerable, result_by, ended_with, vm_paused, paused_with, settled_with, vm_faulted, faulted_with}
+use Rattle.model.specs.declared.Halt.{Halt}
 
-some_by : (none : Bool) (x : Value) → some_last (if none then Nothing else Is x) ≡ true → (if none then Nothing else Is x) ≡ Is x
+some_by : (none : Bool) (x : Value) → some_last (if none then None else Some x) ≡ true → (if none then None else Some x) ≡ Some x
 unfolding some_last
 some_by true x e = absurd (true≢false (sym e))
 some_by false x e = refl
 
 -- a last result that stands in words is their value
-some_value : (k a : ℕ) → some_last (last_in k a) ≡ true → last_in k a ≡ Is (value_of k a)
+some_value : (k a : ℕ) → some_last (last_in k a) ≡ true → last_in k a ≡ Some (value_of k a)
 unfolding last_in
 some_value k a e = some_by (eqb k 7) (value_of k a) e
 
 -- ---- the answers
 
-module _ (m : Vm) (g : Going) {last : Last} (e : last ≡ last_in g.kind g.payload) {did : Tally} (t : did ≡ tally_of g) where
+module _ (m : Vm) (g : Going) {last : Option Value} (e : last ≡ last_in g.kind g.payload) {did : Tally} (t : did ≡ tally_of g) where
   module _ {left : Vm} (d : left ≡ vm_with m g.sp (g.callers + 1) g.used last) where
     pub ends_unanswered : g.returns ≡ 0 → r.Continue left did ≡ ended_with m g
     unfolding ended_with vm_ended answer_in result_by
@@ -54,7 +52,7 @@ module _ (m : Vm) (g : Going) {last : Last} (e : last ≡ last_in g.kind g.paylo
 
 -- ---- a pause
 
-pub pauses : (m : Vm) (u : ℕ) (g : Going) {last : Last} → last ≡ last_in g.kind g.payload → r.Paused (record {
+pub pauses : (m : Vm) (u : ℕ) (g : Going) {last : Option Value} → last ≡ last_in g.kind g.payload → r.Paused (record {
   program = m.program;
   stack = g.sp;
   frames = g.callers + 1;
@@ -66,14 +64,14 @@ pub pauses : (m : Vm) (u : ℕ) (g : Going) {last : Last} → last ≡ last_in g
 unfolding paused_with vm_paused
 pauses m u g e = rw (e, add-one)
 
-module _ (m : Vm) (u : ℕ) (g : Going) {n : ℕ} where
-  pub ends_unpaused : n ≡ 0 → {x : RunResult} → x ≡ ended_with m g → x ≡ settled_with m u g n
+module _ (m : Vm) (u : ℕ) (g : Going) {b : Bool} where
+  pub ends_unpaused : b ≡ false → {x : Halt} → x ≡ ended_with m g → x ≡ settled_with m u g b
   unfolding settled_with
-  ends_unpaused h e = rw (eq-eqb _ _ h) e
+  ends_unpaused h e = rw h e
 
-  pub pauses_unended : (n ≡ 0 → ⊥) → {x : RunResult} → x ≡ paused_with m u g → x ≡ settled_with m u g n
+  pub pauses_unended : b ≡ true → {x : Halt} → x ≡ paused_with m u g → x ≡ settled_with m u g b
   unfolding settled_with
-  pauses_unended h e = rw (ne_eqb _ _ h) e
+  pauses_unended h e = rw h e
 
 -- ---- a beginning
 

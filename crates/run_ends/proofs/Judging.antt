@@ -7,31 +7,20 @@ use native.Mathlib.Omega.{arith}
 use borrow.Author.Tests.{leb-true, le-leb, lt-leb}
 use lib.Dec.{leb, ltb, eqb}
 use lib.ListN.{length}
-use Rattle.model.specs.declared.Counts.{Counts}
 use Rattle.model.specs.declared.Run.{Run}
 use Rattle.model.specs.declared.Vm.{Vm}
 use Rattle.model.specs.declared.Frame.{Frame}
 use Rattle.model.specs.declared.Value.{Value}
-use Rattle.model.specs.declared.Last.{Last}
-use Rattle.model.specs.declared.Last.TheVariants.{Nothing, Is}
 use Rattle.model.specs.Values.{places, kind_at, payload_at, value_of, value_at, exact_value}
 use Rattle.model.specs.Heap.{Cell, heap_of, heap_ok, exact_cells, placed_below}
 use Rattle.model.specs.Stores.{Stores, size, code_word}
 use Rattle.model.specs.Orders.{program_ok, cells_ok, stack_ok, last_ok}
 use Rattle.model.specs.Machines.{Lent, frame_room, some_last, idle, copy_short, trace_short}
 use Rattle.cells.proofs.Stands.{length_heap}
-use Rattle.layout.specs.Links.{WholeIs}
 use Rattle.layout.proofs.Bools.{and_left}
 use Rattle.laws_programs.proofs.Every.{Judged}
 use Rattle.run_ends.specs.Links.{program_lent, values_ok, rest_order, counts_by, part_by}
-
--- ---- the program
-
-module _ (c : Counts) (structs constants functions text main main_places other other_places : List ℕ) {r : Bool} where
-  pub program_is : WholeIs c constants structs functions text (length main) (length main_places) (length other) (length other_places) r
-      → r ≡ program_ok c (program_lent structs constants functions text main main_places other other_places)
-  unfolding program_lent
-  program_is h = h.is _ refl refl refl refl refl refl refl refl
+use Rattle.std.specs.Prelude.{None, Option, Some, is_some}
 
 -- ---- the cells
 
@@ -66,11 +55,11 @@ module _ (t n : ℕ) (cells : List ℕ) where
   unfolding value_at
   slot_is stack i ek ea ev ex ep = rw (length_heap n cells, ← ek, ← ea, ← ev, ← ex, ← ep)
 
-  pub no_last_lem : {last : Last} → last ≡ Nothing → true ≡ last_ok t (heap_of n cells) last
+  pub no_last_lem : {last : Option Value} → last ≡ None → true ≡ last_ok t (heap_of n cells) last
   unfolding last_ok
   no_last_lem e = rw e
 
-  pub some_last_lem : {last : Last} {v : Value} → last ≡ Is v → {p : Bool} → p ≡ placed_below t (heap_of n cells) n v → p ≡ last_ok t (heap_of n cells) last
+  pub some_last_lem : {last : Option Value} {v : Value} → last ≡ Some v → {p : Bool} → p ≡ placed_below t (heap_of n cells) n v → p ≡ last_ok t (heap_of n cells) last
   unfolding last_ok
   some_last_lem e f = rw (e, length_heap n cells) f
 
@@ -81,7 +70,7 @@ stack_judged t H n stack = record { says = refl }
 
 -- ---- cells, a stack and a last result
 
-module _ (t n : ℕ) (cells : List ℕ) (k : ℕ) (stack : List ℕ) (last : Last) {a : Bool} (ea : a ≡ cells_ok t n cells) where
+module _ (t n : ℕ) (cells : List ℕ) (k : ℕ) (stack : List ℕ) (last : Option Value) {a : Bool} (ea : a ≡ cells_ok t n cells) where
   pub not_exact : a ≡ false → false ≡ values_ok t n cells k stack last
   unfolding values_ok
   not_exact h = rw (← ea, h)
@@ -103,15 +92,12 @@ module _ (m : Vm) (s : Stores) (stack cells : List ℕ) {a : Bool} (ea : a ≡ p
 
 -- ---- the run that is under way
 
-pub no_result : {last : Last} → last ≡ Nothing → false ≡ some_last last
+pub some_is : (last : Option Value) → is_some last ≡ some_last last
 unfolding some_last
-no_result e = rw e
+some_is None = refl
+some_is (Some v) = refl
 
-pub some_result : {last : Last} {v : Value} → last ≡ Is v → true ≡ some_last last
-unfolding some_last
-some_result e = rw e
-
-pub counts_are : (r : Run) (last : Last) (cells slots : ℕ) {some : Bool} → some ≡ some_last last
+pub counts_are : (r : Run) (last : Option Value) (cells slots : ℕ) {some : Bool} → some ≡ some_last last
     → (leb r.spent r.given && leb r.returns r.spent && (eqb r.returns 0 || some) && leb r.mark cells && leb r.saved slots) ≡ counts_by r last cells slots
 unfolding counts_by
 counts_are r last cells slots e = rw e

@@ -8,9 +8,30 @@ use borrow.Author.Tests.{lt-ltb, le-ltb, ne_eqb}
 use lib.Dec.{ltb, eqb}
 use lib.ListN.{length}
 use Rattle.model.specs.declared.Vm.{Vm}
+use Rattle.model.specs.declared.Refusal.{Refusal}
+use Rattle.model.specs.declared.Refusal.TheVariants as why
+use Rattle.model.specs.Answers.{refusal_number}
 use Rattle.model.specs.Runs.{Part}
 use Rattle.model.specs.Stores.{Stores}
 use Rattle.model.specs.Machines.{Unchanged, unchanged, Lent, run_order, copy_short, trace_short, ran, refused, begins, continues, abandons, run_answer, begin_answer, continue_answer, abandon_answer, refusal_of}
+
+-- a refusal has a number
+pub is_refused : (e : Refusal) → refusal_number e ≡ 0 → ⊥
+is_refused why.UnknownOpcode h = let z : ⊥ = omega arith in z
+is_refused why.CodeEnds h = let z : ⊥ = omega arith in z
+is_refused why.WrongKind h = let z : ⊥ = omega arith in z
+is_refused why.NoSuchPlace h = let z : ⊥ = omega arith in z
+is_refused why.NoLastResult h = let z : ⊥ = omega arith in z
+is_refused why.NoFunction h = let z : ⊥ = omega arith in z
+is_refused why.PlaceOutsideCode h = let z : ⊥ = omega arith in z
+is_refused why.ResultTooShort h = let z : ⊥ = omega arith in z
+is_refused why.NoRunUnderWay h = let z : ⊥ = omega arith in z
+is_refused why.NotInOrder h = let z : ⊥ = omega arith in z
+is_refused (why.BrokenImage offset) h = let z : ⊥ = omega arith in z
+is_refused why.StoreFull h = let z : ⊥ = omega arith in z
+is_refused why.OverLimit h = let z : ⊥ = omega arith in z
+is_refused why.PatchOutsideCode h = let z : ⊥ = omega arith in z
+is_refused why.RunUnderWay h = let z : ⊥ = omega arith in z
 
 -- continuing is refused as abandoning is, and 22 where that is not
 by_the_tests : (order on short long : Bool) (c : Unchanged) (x y : Part)

@@ -9,8 +9,6 @@ use lib.Dec.{leb}
 use lib.ListN.{length}
 use Rattle.model.specs.declared.Vm.{Vm}
 use Rattle.model.specs.declared.Value.{Value}
-use Rattle.model.specs.declared.Last.{Last}
-use Rattle.model.specs.declared.Last.TheVariants.{Nothing, Is}
 use Rattle.model.specs.declared.Frame.{Frame}
 use Rattle.model.specs.declared.Tally.{Tally}
 use Rattle.model.specs.Values.{vals}
@@ -27,12 +25,13 @@ use Rattle.run_arms.specs.Links.{Around, frame_in, state_of}
 use Rattle.run_steps.specs.Links.{progress_in}
 use Rattle.run_steps.specs.Links as steps
 use Rattle.run_ends.specs.Links.{Begun, cut_frame, vm_begun, begun_with, vm_ended, result_by, tally_of, ended_with, vm_paused, paused_with, vm_faulted, faulted_with}
+use Rattle.std.specs.Prelude.{None, Option, Some, Ok}
 
 -- the value of the last root Return, or "continue"
-pub a_result_says_what_is_answered : (l : Lent) (a : Last) (m : Vm) (t : Tally) → answer_in l (result_by a m t) ≡ ended_as m l (answered a t)
+pub a_result_says_what_is_answered : (l : Lent) (a : Option Value) (m : Vm) (t : Tally) → answer_in l (Ok (result_by a m t)) ≡ ended_as m l (answered a t)
 unfolding answer_in result_by answered
-a_result_says_what_is_answered l Nothing m t = refl
-a_result_says_what_is_answered l (Is x) m t = refl
+a_result_says_what_is_answered l None m t = refl
+a_result_says_what_is_answered l (Some x) m t = refl
 
 -- ---- a beginning: l' are the stores as it leaves them, the stack in the copy store too, and all frames unentered
 
@@ -56,13 +55,13 @@ module _ (m : Vm) (l l' : Lent) (w : World) (begun : standing (machine_in m l') 
     its_end_is_read_from_the_words = rw (← begun, ← here, long)
 
     module _ (same : vals m.stack l'.copy ≡ vals m.stack l.stack) where
-      begins_by : (b : Bool) → over w first ≡ b → answer_in l' (begun_with m f words) ≡ ran (unchanged m) (begin_of w (machine_in m l))
+      begins_by : (b : Bool) → over w first ≡ b → answer_in l' (Ok (begun_with m f words)) ≡ ran (unchanged m) (begin_of w (machine_in m l))
       unfolding answer_in begun_with
       begins_by true e = rw (a_run_begun_at_its_end_is_over_at_once w (machine_in m l) e, ← its_end_is_read_from_the_words, e, ← a_begun_machine_is_left)
           (unfold machine_in in refl)
       begins_by false e = rw (a_run_begun_before_an_instruction_is_paused_there w (machine_in m l) e, ← its_end_is_read_from_the_words, e) (unfold vm_begun in rw (a_begun_run_is_under_way same))
 
-      pub a_beginning_answers_by_the_rules : answer_in l' (begun_with m f words) ≡ ran (unchanged m) (begin_of w (machine_in m l))
+      pub a_beginning_answers_by_the_rules : answer_in l' (Ok (begun_with m f words)) ≡ ran (unchanged m) (begin_of w (machine_in m l))
       a_beginning_answers_by_the_rules = begins_by (over w first) refl
 
 module _ (m : Vm) (g : Going) (l : Lent) where
@@ -82,7 +81,7 @@ module _ (m : Vm) (g : Going) (l : Lent) where
     unfolding machine_in vm_ended
     an_end_leaves_the_machine_as_it_stands = rw (current, callers)
 
-    pub an_end_answers_by_the_rules : (w : World) (start : List Value) (u : ℕ) → answer_in l (ended_with m g) ≡ ran (unchanged m) (part_of w start u (ended progress here))
+    pub an_end_answers_by_the_rules : (w : World) (start : List Value) (u : ℕ) → answer_in l (Ok (ended_with m g)) ≡ ran (unchanged m) (part_of w start u (ended progress here))
     unfolding ended_with part_of
     an_end_answers_by_the_rules w start u =
         a_result_says_what_is_answered l (steps.answer_in g) (vm_ended m g) (tally_of g)
@@ -94,7 +93,7 @@ module _ (m : Vm) (g : Going) (l : Lent) where
       unfolding under_in mc.progress_in machine_in vm_paused steps.answer_in
       a_paused_run_is_under_way = rw (copy, current, callers, given)
 
-      pub a_pause_answers_by_the_rules : (w : World) → answer_in l (paused_with m u g) ≡ ran (unchanged m) (part_of w start u (paused progress here))
+      pub a_pause_answers_by_the_rules : (w : World) → answer_in l (Ok (paused_with m u g)) ≡ ran (unchanged m) (part_of w start u (paused progress here))
       unfolding answer_in paused_with part_of
       a_pause_answers_by_the_rules w = unfold vm_paused in rw a_paused_run_is_under_way
 
@@ -107,7 +106,7 @@ module _ (m : Vm) (g : Going) (l : Lent) where
     a_fault_leaves_the_recovered_machine = rw (stack, main, alone)
 
     pub a_fault_answers_by_the_rules : (n : ℕ) {es : List Entry} → entries_in (suc g.callers) 0 l.backtrace ≡ es
-        → answer_in l (faulted_with m g n) ≡ ran (unchanged m) (ends (record { reply = fault n (tally g.spent progress) es; machine = recovered w start progress }))
+        → answer_in l (Ok (faulted_with m g n)) ≡ ran (unchanged m) (ends (record { reply = fault n (tally g.spent progress) es; machine = recovered w start progress }))
     unfolding answer_in faulted_with
     a_fault_answers_by_the_rules n told = unfold vm_faulted in rw (a_fault_leaves_the_recovered_machine, the_tally_counts_the_units_spent, told)
 

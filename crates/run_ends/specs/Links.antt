@@ -1,15 +1,11 @@
 -- What the ends of a part of a run ensure.
-use Rattle.std.specs.Prelude.{◌≡◌, Bool, true, ◌&&◌, ◌||◌, List, ℕ, suc, ◌-◌, ltb, leb, eqb, length, if◌then◌else◌}
+use Rattle.std.specs.Prelude.{◌≡◌, Bool, true, ◌&&◌, ◌||◌, List, ℕ, suc, ◌-◌, ltb, leb, eqb, length, if◌then◌else◌, Err, None, Ok, Option, Result, Some}
+unfoldable pub use Rattle.layout.specs.Lent.{program_lent}
 use Rattle.model.specs.declared.Run.{Run}
 use Rattle.model.specs.declared.Vm.{Vm}
-use Rattle.model.specs.declared.Changed.{Changed}
-use Rattle.model.specs.declared.Changed.TheVariants as ch
-use Rattle.model.specs.declared.Last.{Last}
-use Rattle.model.specs.declared.Last.TheVariants.{Nothing, Is}
 use Rattle.model.specs.declared.Frame.{Frame}
 use Rattle.model.specs.declared.Tally.{Tally}
-use Rattle.model.specs.declared.RunResult.{RunResult}
-use Rattle.model.specs.declared.RunResult.TheVariants as r
+use Rattle.model.specs.declared.Halt.TheVariants as r
 use Rattle.model.specs.Values.{places, kind}
 use Rattle.model.specs.Heap.{heap_of}
 use Rattle.model.specs.Stores.{Stores, size, code_word}
@@ -19,24 +15,15 @@ use Rattle.run_arms.specs.declared.Fixed.{Fixed}
 use Rattle.run_arms.specs.declared.Going.{Going}
 use Rattle.value.specs.Links.{last_in}
 use Rattle.run_steps.specs.Links.{answer_in}
-
--- a program's stores
-unfoldable pub program_lent : List ℕ → List ℕ → List ℕ → List ℕ → List ℕ → List ℕ → List ℕ → List ℕ → Stores
-program_lent structs constants functions text main main_places other other_places = record {
-  constants = constants;
-  structs = structs;
-  functions = functions;
-  text = text;
-  main = main;
-  main_places = main_places;
-  other = other;
-  other_places = other_places;
-}
+use Rattle.model.specs.declared.Halt.{Halt}
+use Rattle.model.specs.declared.Refusal.{Refusal}
+use Rattle.model.specs.declared.Value.{Value}
+use Rattle.model.specs.declared.Refusal.TheVariants as why
 
 -- ---- good order, in parts
 
 -- n cells, a stack of k values over them, and a last result
-unfoldable pub values_ok : (texts n : ℕ) → List ℕ → (k : ℕ) → List ℕ → Last → Bool
+unfoldable pub values_ok : (texts n : ℕ) → List ℕ → (k : ℕ) → List ℕ → Option Value → Bool
 values_ok t n cells k stack last = cells_ok t n cells && stack_ok t (heap_of n cells) k stack && last_ok t (heap_of n cells) last
 
 -- the good order that a run judges, but for the frames and the run that is under way
@@ -48,7 +35,7 @@ rest_order m s stack cells =
     && last_ok m.program.text (heap_of m.cells cells) m.last
 
 -- the counts of a run under way, beside a last result and so many cells and places of the stack
-unfoldable pub counts_by : Run → Last → (cells slots : ℕ) → Bool
+unfoldable pub counts_by : Run → Option Value → (cells slots : ℕ) → Bool
 counts_by r last cells slots =
     leb r.spent r.given && leb r.returns r.spent && (eqb r.returns 0 || some_last last) && leb r.mark cells && leb r.saved slots
 
@@ -65,12 +52,12 @@ part_by m f slots words cells copy =
 -- ---- the setting
 
 -- where the order is good and no run is under way, the machine with another setting
-unfoldable pub set_by : (good : Bool) → Vm → (strict : Bool) → Changed
+unfoldable pub set_by : (good : Bool) → Vm → (strict : Bool) → Result Vm Refusal
 set_by good m strict =
     if good then
-    (if m.run.on then ch.Refused 25 else
-    ch.Done (record { program = m.program; stack = m.stack; frames = m.frames; cells = m.cells; last = m.last; run = m.run; strict = strict }))
-    else ch.Refused 19
+    (if m.run.on then Err why.RunUnderWay else
+    Ok (record { program = m.program; stack = m.stack; frames = m.frames; cells = m.cells; last = m.last; run = m.run; strict = strict }))
+    else Err why.NotInOrder
 
 -- ---- the loop's start
 
@@ -109,7 +96,7 @@ cut_frame m f = record {
 -- ---- what a part leaves and answers
 
 -- the machine with other counts and last result, over the same program, of the same setting, and no run under way
-abbrev pub vm_with : Vm → ℕ → ℕ → ℕ → Last → Vm
+abbrev pub vm_with : Vm → ℕ → ℕ → ℕ → Option Value → Vm
 vm_with m stack frames cells last = record { program = m.program; stack = stack; frames = frames; cells = cells; last = last; run = no_run; strict = m.strict }
 
 -- the machine of a run that is begun
@@ -125,7 +112,7 @@ vm_begun m = record {
 }
 
 -- over at once, or paused
-unfoldable pub begun_with : Vm → Frame → (words : List ℕ) → RunResult
+unfoldable pub begun_with : Vm → Frame → (words : List ℕ) → Halt
 begun_with m f words =
     if leb (size (code_word words f.function)) f.position
     then r.Continue (vm_with m m.stack m.frames m.cells m.last) (record { spent = 0; returns = 0 })
@@ -139,15 +126,15 @@ Answerable g = (eqb g.returns 0 || some_last (last_in g.kind g.payload)) ≡ tru
 unfoldable pub vm_ended : Vm → Going → Vm
 vm_ended m g = vm_with m g.sp (suc g.callers) g.used (last_in g.kind g.payload)
 
-unfoldable pub result_by : Last → Vm → Tally → RunResult
-result_by Nothing m t = r.Continue m t
-result_by (Is v) m t = r.Value m v t
+unfoldable pub result_by : Option Value → Vm → Tally → Halt
+result_by None m t = r.Continue m t
+result_by (Some v) m t = r.Value m v t
 
 -- what a run did
 abbrev pub tally_of : Going → Tally
 tally_of g = record { spent = g.spent; returns = g.returns }
 
-unfoldable pub ended_with : Vm → Going → RunResult
+unfoldable pub ended_with : Vm → Going → Halt
 ended_with m g = result_by (answer_in g) (vm_ended m g) (tally_of g)
 
 -- the machine of a run that is paused, of u units given in all: it is under way as far as it has come, and the copy of its starting stack stays
@@ -162,16 +149,16 @@ vm_paused m u g = record {
   strict = m.strict;
 }
 
-unfoldable pub paused_with : Vm → ℕ → Going → RunResult
+unfoldable pub paused_with : Vm → ℕ → Going → Halt
 paused_with m u g = r.Paused (vm_paused m u g)
 
 -- a run that no fault has stopped: it has ended, or it is paused
-unfoldable pub settled_with : Vm → ℕ → Going → ℕ → RunResult
-settled_with m u g n = if eqb n 0 then ended_with m g else paused_with m u g
+unfoldable pub settled_with : Vm → ℕ → Going → (is_paused : Bool) → Halt
+settled_with m u g b = if b then paused_with m u g else ended_with m g
 
 -- the machine that a fault leaves: the stack of the start, one frame, the mark's cells and last result
 unfoldable pub vm_faulted : Vm → Going → Vm
 vm_faulted m g = vm_with m m.run.saved 1 g.mark (last_in g.kind g.payload)
 
-unfoldable pub faulted_with : Vm → Going → ℕ → RunResult
+unfoldable pub faulted_with : Vm → Going → ℕ → Halt
 faulted_with m g n = r.Fault (vm_faulted m g) n (tally_of g) (suc g.callers)

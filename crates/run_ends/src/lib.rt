@@ -1,7 +1,9 @@
 // The two ends of a part of a run, without its loop: judging and copying before it, what it leaves and answers behind it.
 #![tactic(auto)]
 
+ghost use Rattle.layout.specs.Lent.{stores_in};
 ghost use Rattle.std.specs.Prelude.{◌≡◌, ◌&&◌, ◌||◌, ◌+◌, ◌-◌, ◌*◌, ◌≤◌, ◌<◌, ◌^◌, eqb, length, take};
+ghost use Rattle.model.specs.Answers.{answer_number};
 ghost use Rattle.model.specs.Values.{kind_at, payload_at, value_at, exact_value};
 ghost use Rattle.model.specs.Heap.{heap_of, placed_below};
 ghost use Rattle.model.specs.Emission.{written};
@@ -12,8 +14,9 @@ ghost use Rattle.model.specs.Machines.{Lent, some_last, idle, run_order, copy_sh
 ghost use Rattle.run_ends.specs.Links.{set_by, program_lent, values_ok, rest_order, counts_by, part_by, FixedPost, Begun, cut_frame, vm_with, tally_of, Answerable, ended_with, faulted_with, paused_with, settled_with, begun_with};
 
 use cells::{good_cells, placed};
+use layout::lent::ProgramStores;
 use layout::reads::{first, lesser, room, second, size_of};
-use model::{Changed, Counts, Frame, Last, MOST_PLACES, Run, RunResult, Tally, Vm};
+use model::{Counts, Frame, Halt, MOST_PLACES, Refusal, Run, Tally, Value, Vm};
 use program::order::program_ok;
 use run_arms::{Fixed, Going};
 use value::words::{exact_value, last_in, last_kind, last_payload, value_of};
@@ -43,7 +46,7 @@ pub fn fresh_vm(c: Counts) -> Vm
         stack: 0,
         frames: 1,
         cells: 0,
-        last: Last::Nothing,
+        last: None,
         run: no_run(),
         strict: false,
     }
@@ -75,33 +78,29 @@ fn stack_ok(texts: usize, used: usize, cells: &[u64], n: usize, stack: &[u64]) -
     requires { 2 * used ≤ length cells.now }
     ensures { result ≡ stack_ok texts (heap_of used cells.now) n stack.now }
 {
-    if room(stack.len(), 2) < n {
-        return false;
-    }
-    let mut i = 0;
-    while i < n {
-        let ok = slot_ok(texts, used, cells, stack, i);
-        if !ok {
-            return false;
-        }
-        i += 1;
-    }
-    true
+    n <= room(stack.len(), 2) && (0..n).all(|i| slot_ok(texts, used, cells, stack, i))
 }
 
 // The last result, if there is one: placed in the cells.
-fn last_ok(texts: usize, used: usize, cells: &[u64], last: Last) -> bool
+fn last_ok(texts: usize, used: usize, cells: &[u64], last: Option<Value>) -> bool
     requires { 2 * used ≤ length cells.now }
     ensures { result ≡ last_ok texts (heap_of used cells.now) last }
 {
     match last {
-        Last::Nothing => true,
-        Last::Is(v) => placed(v, texts, cells, used),
+        None => true,
+        Some(v) => placed(v, texts, cells, used),
     }
 }
 
 // Cells, a stack of n values over them, and a last result.
-fn values_ok(texts: usize, used: usize, cells: &[u64], n: usize, stack: &[u64], last: Last) -> bool
+fn values_ok(
+    texts: usize,
+    used: usize,
+    cells: &[u64],
+    n: usize,
+    stack: &[u64],
+    last: Option<Value>,
+) -> bool
     ensures { result ≡ values_ok texts used cells.now n stack.now last }
 {
     let exact = cells_ok(texts, used, cells);
@@ -114,38 +113,11 @@ fn values_ok(texts: usize, used: usize, cells: &[u64], n: usize, stack: &[u64], 
 }
 
 // The good order that a run judges, but for the frames and the run that is under way.
-pub fn judge(
-    m: Vm,
-    constants: &[u64],
-    structs: &[u64],
-    functions: &[u64],
-    text: &[u8],
-    main: &[u8],
-    main_places: &[u32],
-    other: &[u8],
-    other_places: &[u32],
-    stack: &[u64],
-    cells: &[u64],
-) -> bool
-    ensures { result ≡ rest_order m (program_lent structs.now constants.now functions.now text.now main.now main_places.now other.now other_places.now) stack.now cells.now }
+pub fn judge(m: Vm, stores: &ProgramStores, stack: &[u64], cells: &[u64]) -> bool
+    ensures { result ≡ rest_order m (stores_in stores.now) stack.now cells.now }
 {
     let c = m.program;
-    let whole = program_ok(
-        c,
-        constants,
-        structs,
-        functions,
-        text,
-        main.len(),
-        main_places.len(),
-        other.len(),
-        other_places.len(),
-    );
-    if !whole {
-        return false;
-    }
-    let last = m.last;
-    values_ok(c.text, m.cells, cells, m.stack, stack, last)
+    program_ok(c, stores) && values_ok(c.text, m.cells, cells, m.stack, stack, m.last)
 }
 
 // A machine with no run under way has one form of it.
@@ -156,18 +128,15 @@ fn is_idle(r: Run) -> bool
 }
 
 // Whether there is a last result.
-fn some_last(last: Last) -> bool
+fn some_last(last: Option<Value>) -> bool
     ensures { result ≡ some_last last }
 {
-    match last {
-        Last::Nothing => false,
-        Last::Is(_) => true,
-    }
+    last.is_some()
 }
 
 // The counts of a run under way: no more units spent than given, a unit and a last result for each root Return, a mark within the cells, a copy within the
 // stack's places.
-fn counts_ok(r: Run, last: Last, cells: usize, slots: usize) -> bool
+fn counts_ok(r: Run, last: Option<Value>, cells: usize, slots: usize) -> bool
     ensures { result ≡ counts_by r last cells slots }
 {
     let some = some_last(last);
@@ -206,7 +175,7 @@ pub fn part_ok(
     is_idle(run)
 }
 
-// ---- why a call of a run is refused, or 0; good is whether all is in good order, and the stores are judged by their lengths
+// ---- why a call of a run is refused; good is whether all is in good order, and the stores are judged by their lengths
 
 // Whether the copy store is shorter than the stack store.
 fn copy_short(stack: usize, copy: usize) -> bool
@@ -223,68 +192,67 @@ fn trace_short(frames: usize, backtrace: usize) -> bool
 }
 
 // Beginning: a run may not be under way.
-pub fn begin_refusal(good: bool, m: Vm, stack: usize, copy: usize) -> u8
-    ensures { (s : Stores) (l : Lent) → good ≡ run_order m s l → length l.stack ≡ stack → length l.copy ≡ copy → result ≡ refusal_of (run_answer begins m s l) }
+pub fn may_begin(good: bool, m: Vm, stack: usize, copy: usize) -> Result<(), Refusal>
+    ensures { (s : Stores) (l : Lent) → good ≡ run_order m s l → length l.stack ≡ stack → length l.copy ≡ copy → answer_number result ≡ refusal_of (run_answer begins m s l) }
 {
-    if good {
-        let on = m.run.on;
-        if on {
-            return 25;
-        }
-        let short = copy_short(stack, copy);
-        if short {
-            return 17;
-        }
-        return 0;
+    if !good {
+        return Err(Refusal::NotInOrder);
     }
-    19
+    if m.run.on {
+        return Err(Refusal::RunUnderWay);
+    }
+    if copy_short(stack, copy) {
+        return Err(Refusal::ResultTooShort);
+    }
+    Ok(())
 }
 
 // Abandoning: a run must be under way.
-pub fn abandon_refusal(good: bool, m: Vm, frames: usize, backtrace: usize) -> u8
-    ensures { (s : Stores) (l : Lent) → good ≡ run_order m s l → length l.frames ≡ frames → length l.backtrace ≡ backtrace → result ≡ refusal_of (run_answer abandons m s l) }
+pub fn may_abandon(good: bool, m: Vm, frames: usize, backtrace: usize) -> Result<(), Refusal>
+    ensures { (s : Stores) (l : Lent) → good ≡ run_order m s l → length l.frames ≡ frames → length l.backtrace ≡ backtrace → answer_number result ≡ refusal_of (run_answer abandons m s l) }
 {
-    if good {
-        let on = m.run.on;
-        if on {
-            let short = trace_short(frames, backtrace);
-            if short {
-                return 17;
-            }
-            return 0;
-        }
-        return 18;
+    if !good {
+        return Err(Refusal::NotInOrder);
     }
-    19
+    if !m.run.on {
+        return Err(Refusal::NoRunUnderWay);
+    }
+    if trace_short(frames, backtrace) {
+        return Err(Refusal::ResultTooShort);
+    }
+    Ok(())
 }
 
 // Continuing: as for abandoning, and the units given in all may not pass 64 bits.
-pub fn continue_refusal(good: bool, m: Vm, units: u64, frames: usize, backtrace: usize) -> u8
-    ensures { (s : Stores) (l : Lent) → good ≡ run_order m s l → length l.frames ≡ frames → length l.backtrace ≡ backtrace → result ≡ refusal_of (run_answer (continues units) m s l) }
+pub fn may_continue(
+    good: bool,
+    m: Vm,
+    units: u64,
+    frames: usize,
+    backtrace: usize,
+) -> Result<(), Refusal>
+    ensures { (s : Stores) (l : Lent) → good ≡ run_order m s l → length l.frames ≡ frames → length l.backtrace ≡ backtrace → answer_number result ≡ refusal_of (run_answer (continues units) m s l) }
 {
-    let why = abandon_refusal(good, m, frames, backtrace);
-    if why == 0 {
-        let most = 0xFFFF_FFFF_FFFF_FFFF - m.run.given;
-        if most < units {
-            return 22;
-        }
-        return 0;
+    may_abandon(good, m, frames, backtrace)?;
+    let most = u64::MAX - m.run.given;
+    if most < units {
+        return Err(Refusal::OverLimit);
     }
-    why
+    Ok(())
 }
 
 // The machine with this setting, where its order is good and no run is under way.
-pub fn set_to(good: bool, m: Vm, strict: bool) -> Changed
+pub fn set_to(good: bool, m: Vm, strict: bool) -> Result<Vm, Refusal>
     ensures { result ≡ set_by good m strict }
 {
-    if good {
-        let running = m.run.on;
-        if running {
-            return Changed::Refused(25);
-        }
-        return Changed::Done(Vm { strict, ..m });
+    if !good {
+        return Err(Refusal::NotInOrder);
     }
-    Changed::Refused(19)
+    let running = m.run.on;
+    if running {
+        return Err(Refusal::RunUnderWay);
+    }
+    Ok(Vm { strict, ..m })
 }
 
 // ---- copying, and the loop's start
@@ -294,12 +262,7 @@ pub fn copy_front(n: usize, from: &[u64], to: &mut [u64])
     requires { (2 * n ≤ length from.now) × (2 * n ≤ length to.old) }
     ensures { to.new ≡ written to.old 0 (take (2 * n) from.now) }
 {
-    let end = 2 * n;
-    let mut i = 0;
-    while i < end {
-        to[i] = from[i];
-        i += 1;
-    }
+    to[..2 * n].copy_from_slice(&from[..2 * n]);
 }
 
 // What no step changes, in a run that was given this many units in all; stack and frames are the lengths of their stores.
@@ -322,10 +285,7 @@ pub fn fixed(m: Vm, given: u64, stack: usize, frames: usize) -> Fixed
 pub fn innermost_at(n: usize) -> usize
     ensures { result ≡ n - 1 }
 {
-    if n == 0 {
-        return 0;
-    }
-    n - 1
+    n.saturating_sub(1)
 }
 
 // The machine where its run goes on, in the frame f and with this many units spent.
@@ -393,7 +353,7 @@ pub fn abandoned(m: Vm, f: Frame) -> Going
 // ---- what a part leaves and answers
 
 // A machine over the same program, of the same setting, with no run under way, with these counts and this last result.
-fn vm_with(m: Vm, stack: usize, frames: usize, cells: usize, last: Last) -> Vm
+fn vm_with(m: Vm, stack: usize, frames: usize, cells: usize, last: Option<Value>) -> Vm
     ensures { result ≡ vm_with m stack frames cells last }
 {
     let c = m.program;
@@ -411,7 +371,7 @@ fn vm_with(m: Vm, stack: usize, frames: usize, cells: usize, last: Last) -> Vm
 }
 
 // A beginning, in the frame f: a run at its end is over at once, and any other is under way and paused before its first instruction.
-pub fn begun(m: Vm, f: Frame, functions: &[u64]) -> RunResult
+pub fn begun(m: Vm, f: Frame, functions: &[u64]) -> Halt
     ensures { result ≡ begun_with m f functions.now }
 {
     let end = size_of(second(functions, f.function));
@@ -422,7 +382,7 @@ pub fn begun(m: Vm, f: Frame, functions: &[u64]) -> RunResult
             spent: 0,
             returns: 0,
         };
-        return RunResult::Continue(left, did);
+        return Halt::Continue(left, did);
     }
     let run = Run {
         on: true,
@@ -432,7 +392,7 @@ pub fn begun(m: Vm, f: Frame, functions: &[u64]) -> RunResult
         mark: m.cells,
         saved: m.stack,
     };
-    RunResult::Paused(Vm { run, ..m })
+    Halt::Paused(Vm { run, ..m })
 }
 
 // What a run did: how many units it spent, and the root Returns that it completed.
@@ -446,7 +406,7 @@ fn tally(g: Going) -> Tally
 }
 
 // What a run answers that has ended: the value of its last root Return, or "continue".
-fn ended(m: Vm, g: Going) -> RunResult
+fn ended(m: Vm, g: Going) -> Halt
     requires { (g.callers < 2 ^ 32) × Answerable g }
     ensures { result ≡ ended_with m g }
 {
@@ -455,14 +415,14 @@ fn ended(m: Vm, g: Going) -> RunResult
     let did = tally(g);
     let returns = g.returns;
     if returns == 0 {
-        return RunResult::Continue(left, did);
+        return Halt::Continue(left, did);
     }
     let v = value_of(g.kind, g.payload);
-    RunResult::Value(left, v, did)
+    Halt::Value(left, v, did)
 }
 
 // What a run answers that is paused, of the units it was given in all: it is under way, as far as it has come.
-fn paused(m: Vm, given: u64, g: Going) -> RunResult
+fn paused(m: Vm, given: u64, g: Going) -> Halt
     requires { g.callers < 2 ^ 32 }
     ensures { result ≡ paused_with m given g }
 {
@@ -478,7 +438,7 @@ fn paused(m: Vm, given: u64, g: Going) -> RunResult
         mark: g.mark,
         saved: m.run.saved,
     };
-    RunResult::Paused(Vm {
+    Halt::Paused(Vm {
         program: c,
         stack: g.sp,
         frames,
@@ -489,26 +449,20 @@ fn paused(m: Vm, given: u64, g: Going) -> RunResult
     })
 }
 
-// Whether no fault has stopped a run: it has ended, or it is paused.
-pub fn unfaulted(fault: u8) -> bool
-    ensures { result ≡ (eqb fault 0 || eqb fault 13) }
-{
-    (fault == 0) | (fault == 13)
-}
-
-// What a run answers that no fault has stopped.
-pub fn settled(m: Vm, given: u64, g: Going, fault: u8) -> RunResult
+// What a run answers that no fault has stopped: it has ended, or it is paused.
+pub fn settled(m: Vm, given: u64, g: Going, is_paused: bool) -> Halt
     requires { (g.callers < 2 ^ 32) × Answerable g }
-    ensures { result ≡ settled_with m given g fault }
+    ensures { result ≡ settled_with m given g is_paused }
 {
-    if fault == 0 {
-        return ended(m, g);
+    if is_paused {
+        paused(m, given, g)
+    } else {
+        ended(m, g)
     }
-    paused(m, given, g)
 }
 
 // What a run answers that has faulted: the stack of the start, one frame, and the mark's cells and last result.
-pub fn faulted(m: Vm, g: Going, fault: u8) -> RunResult
+pub fn faulted(m: Vm, g: Going, fault: u8) -> Halt
     requires { g.callers < 2 ^ 32 }
     ensures { result ≡ faulted_with m g fault }
 {
@@ -516,7 +470,7 @@ pub fn faulted(m: Vm, g: Going, fault: u8) -> RunResult
     let left = vm_with(m, m.run.saved, 1, g.mark, last);
     let did = tally(g);
     let traced = g.callers + 1;
-    RunResult::Fault(left, fault, did, traced)
+    Halt::Fault(left, fault, did, traced)
 }
 
 // The one frame that recovery and loading leave: main's, at this position; it was entered when no unit was spent.

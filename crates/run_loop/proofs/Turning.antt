@@ -26,7 +26,7 @@ use Rattle.run_steps.specs.declared.Event.TheVariants.{Over, Call, Back, Stopped
 use Rattle.run_steps.specs.Links.{Ready, answer_in, progress_in, back_in, after_event, SaneBack, going_at, ExecPost}
 use Rattle.run_steps.proofs.Following.{lent_on}
 use Rattle.run_loop.specs.declared.Course.{Course}
-use Rattle.run_loop.specs.Links.{code_in, around_in, state_in, Under, Ends, TurnsPost, goes_on, goes_in, is_over, is_stopped, is_paused, in_frame}
+use Rattle.run_loop.specs.Links.{code_in, around_in, state_in, Under, Ends, TurnsPost, goes_on, goes_in, is_over, is_stopped, is_paused, in_frame, is_on}
 use Rattle.run_loop.specs.Links as ends
 
 -- ---- what the steps inside a function are lent
@@ -77,20 +77,20 @@ weight_of true u = suc u
 weight_of false u = 0
 
 abbrev pub weight : Fixed → Course → ℕ
-weight k c = weight_of c.on (k.given - c.going.spent)
+weight k c = weight_of (is_on c.turn) (k.given - c.going.spent)
 
 module _ (k : Fixed) (c : Course) where
-  weight_on : c.on ≡ true → weight k c ≡ suc (k.given - c.going.spent)
+  weight_on : (is_on c.turn) ≡ true → weight k c ≡ suc (k.given - c.going.spent)
   weight_on on = ap (λ (b : Bool). weight_of b (k.given - c.going.spent)) on
 
   module _ {r : Course} {m : Going} {e : ℕ} where
-    pub over_less : r ≡ is_over m e → c.on ≡ true → weight k r < weight k c
+    pub over_less : r ≡ is_over m e → (is_on c.turn) ≡ true → weight k r < weight k c
     over_less is on = let a = ap (weight k) is in let b = weight_on on in omega arith
 
-    pub stopped_less : (f : Fault) → r ≡ is_stopped m e f → c.on ≡ true → weight k r < weight k c
+    pub stopped_less : (f : Fault) → r ≡ is_stopped m e f → (is_on c.turn) ≡ true → weight k r < weight k c
     stopped_less f is on = let a = ap (weight k) is in let b = weight_on on in omega arith
 
-    pub paused_less : r ≡ is_paused m e → c.on ≡ true → weight k r < weight k c
+    pub paused_less : r ≡ is_paused m e → (is_on c.turn) ≡ true → weight k r < weight k c
     paused_less is on = let a = ap (weight k) is in let b = weight_on on in omega arith
 
 module _ (k : Fixed) (n : ℕ) (constants functions text main other : List ℕ) where
@@ -113,7 +113,7 @@ module _ (k : Fixed) (n : ℕ) (constants functions text main other : List ℕ) 
 
   -- a run that goes on takes another turn: if it did not, it would have to stand where the rules end it
   pub a_run_goes_on : {g : Going} {e : ℕ} {s x : List ℕ} {frames : List Frame} {h : Going} {i : ℕ} {s' x' : List ℕ} {frames' : List Frame}
-      → Ways true g e s x frames (goes_on h i) s' x' frames' → Ways (goes_on h i).on g e s x frames (goes_on h i) s' x' frames'
+      → Ways true g e s x frames (goes_on h i) s' x' frames' → Ways (is_on (goes_on h i).turn) g e s x frames (goes_on h i) s' x' frames'
   a_run_goes_on ways = ways
 
   abbrev pub Said : Going → List ℕ → List ℕ → Event → List ℕ → List ℕ → Type 0
@@ -250,10 +250,10 @@ module _ (k : Fixed) (n : ℕ) (constants functions text main other : List ℕ) 
 
   module _ {g₀ : Going} {e₀ : ℕ} {s₀ x₀ : List ℕ} {frames₀ : List Frame} (c : Course) {s x : List ℕ} {frames : List Frame} where
     -- the loop's test
-    pub goes : Ways c.on g₀ e₀ s₀ x₀ frames₀ c s x frames → c.on ≡ true → Ways true g₀ e₀ s₀ x₀ frames₀ c s x frames
+    pub goes : Ways (is_on c.turn) g₀ e₀ s₀ x₀ frames₀ c s x frames → (is_on c.turn) ≡ true → Ways true g₀ e₀ s₀ x₀ frames₀ c s x frames
     goes ways on = subst (λ (b : Bool). Ways b g₀ e₀ s₀ x₀ frames₀ c s x frames) on ways
 
-    pub ends_so : Ways c.on g₀ e₀ s₀ x₀ frames₀ c s x frames → c.on ≡ false → Ways false g₀ e₀ s₀ x₀ frames₀ c s x frames
+    pub ends_so : Ways (is_on c.turn) g₀ e₀ s₀ x₀ frames₀ c s x frames → (is_on c.turn) ≡ false → Ways false g₀ e₀ s₀ x₀ frames₀ c s x frames
     ends_so ways off = subst (λ (b : Bool). Ways b g₀ e₀ s₀ x₀ frames₀ c s x frames) off ways
 
     module _ (ways : Ways true g₀ e₀ s₀ x₀ frames₀ c s x frames) where
@@ -266,31 +266,31 @@ module _ (k : Fixed) (n : ℕ) (constants functions text main other : List ℕ) 
       roomy {w} at = (ways w at).under.room
 
       module _ {s' x' : List ℕ} (e : length x' ≡ length x) {r : Course} where
-        pub over_on : {m : Going} → Said c.going s x (Over m) s' x' → r ≡ is_over m c.entered → Ways r.on g₀ e₀ s₀ x₀ frames₀ r s' x' frames
-        over_on {m} said is = subst (λ (r : Course). Ways r.on g₀ e₀ s₀ x₀ frames₀ r s' x' frames) (sym is)
+        pub over_on : {m : Going} → Said c.going s x (Over m) s' x' → r ≡ is_over m c.entered → Ways (is_on r.turn) g₀ e₀ s₀ x₀ frames₀ r s' x' frames
+        over_on {m} said is = subst (λ (r : Course). Ways (is_on r.turn) g₀ e₀ s₀ x₀ frames₀ r s' x' frames) (sym is)
             (λ w at. let z = ways w at in ended_on z (ends_over z.under e (said w _ (ready z.under))))
 
-        pub stopped_on : {m : Going} {f : Fault} → Said c.going s x (Stopped m f) s' x' → r ≡ is_stopped m c.entered f → Ways r.on g₀ e₀ s₀ x₀ frames₀ r s' x' frames
-        stopped_on {m} {f} said is = subst (λ (r : Course). Ways r.on g₀ e₀ s₀ x₀ frames₀ r s' x' frames) (sym is)
+        pub stopped_on : {m : Going} {f : Fault} → Said c.going s x (Stopped m f) s' x' → r ≡ is_stopped m c.entered f → Ways (is_on r.turn) g₀ e₀ s₀ x₀ frames₀ r s' x' frames
+        stopped_on {m} {f} said is = subst (λ (r : Course). Ways (is_on r.turn) g₀ e₀ s₀ x₀ frames₀ r s' x' frames) (sym is)
             (λ w at. let z = ways w at in ended_on z (ends_stopped z.under e (said w _ (ready z.under))))
 
-        pub paused_on : {m : Going} → Said c.going s x (Paused m) s' x' → r ≡ is_paused m c.entered → Ways r.on g₀ e₀ s₀ x₀ frames₀ r s' x' frames
-        paused_on {m} said is = subst (λ (r : Course). Ways r.on g₀ e₀ s₀ x₀ frames₀ r s' x' frames) (sym is)
+        pub paused_on : {m : Going} → Said c.going s x (Paused m) s' x' → r ≡ is_paused m c.entered → Ways (is_on r.turn) g₀ e₀ s₀ x₀ frames₀ r s' x' frames
+        paused_on {m} said is = subst (λ (r : Course). Ways (is_on r.turn) g₀ e₀ s₀ x₀ frames₀ r s' x' frames) (sym is)
             (λ w at. let z = ways w at in ended_on z (ends_paused z.under e (said w _ (ready z.under))))
 
         pub call_on : {m : Going} {i b : ℕ} {f : Frame} {rows : List Frame} → Said c.going s x (Call m i b) s' x' → f ≡ frame_in m c.entered
             → rows ≡ set frames m.callers f → r ≡ goes_in m (m.callers + 1) (entered i b m.spent)
-            → Ways r.on g₀ e₀ s₀ x₀ frames₀ r s' x' rows
+            → Ways (is_on r.turn) g₀ e₀ s₀ x₀ frames₀ r s' x' rows
         call_on {m} {i} {b} {f} {rows} said here put is =
-            subst (λ (r : Course). Ways r.on g₀ e₀ s₀ x₀ frames₀ r s' x' rows) (sym is)
+            subst (λ (r : Course). Ways (is_on r.turn) g₀ e₀ s₀ x₀ frames₀ r s' x' rows) (sym is)
             (a_run_goes_on
             (subst (λ (rows : List Frame). Ways true g₀ e₀ s₀ x₀ frames₀ (goes_in m (m.callers + 1) (entered i b m.spent)) s' x' rows) (sym (put ∙ ap (set frames m.callers) here))
             (λ w at. let z = ways w at in gone_on z (enters z.under e (said w _ (ready z.under))))))
 
         pub back_on : {m : Going} {j : ℕ} {f : Frame} → Said c.going s x (Back m) s' x' → m.callers ≡ j + 1 → f ≡ get_or frames j no_frame → r ≡ goes_in m j f
-            → Ways r.on g₀ e₀ s₀ x₀ frames₀ r s' x' frames
+            → Ways (is_on r.turn) g₀ e₀ s₀ x₀ frames₀ r s' x' frames
         back_on {m} {j} {f} said some here is =
-            subst (λ (r : Course). Ways r.on g₀ e₀ s₀ x₀ frames₀ r s' x' frames) (sym (is ∙ ap (λ (f : Frame). goes_in m j f) here))
+            subst (λ (r : Course). Ways (is_on r.turn) g₀ e₀ s₀ x₀ frames₀ r s' x' frames) (sym (is ∙ ap (λ (f : Frame). goes_in m j f) here))
             (a_run_goes_on (λ w at. let z = ways w at in gone_on z (resumes z.under e j some (said w _ (ready z.under)))))
 
       module _ {w : World} (at : Under w k g₀ e₀ n constants functions text main other s₀ x₀ frames₀) {s' x' : List ℕ} where
@@ -305,12 +305,12 @@ module _ (k : Fixed) (n : ℕ) (constants functions text main other : List ℕ) 
             let a = length_callers c.going.callers frames in let b = p.callers in omega arith
 
         pub call_less : {m : Going} {i b : ℕ} {r : Course} → Said c.going s x (Call m i b) s' x' → r ≡ goes_in m (m.callers + 1) (entered i b m.spent)
-            → c.on ≡ true → weight k r < weight k c
+            → (is_on c.turn) ≡ true → weight k r < weight k c
         call_less said is on =
             let p = said w _ (ready (ways w at).under) in
             let l = p.sane.0 in let h = p.fits.spent in let a = ap (weight k) is in let b = weight_on k c on in omega arith
 
-        pub back_less : {m : Going} {j : ℕ} {f : Frame} {r : Course} → Said c.going s x (Back m) s' x' → r ≡ goes_in m j f → c.on ≡ true → weight k r < weight k c
+        pub back_less : {m : Going} {j : ℕ} {f : Frame} {r : Course} → Said c.going s x (Back m) s' x' → r ≡ goes_in m j f → (is_on c.turn) ≡ true → weight k r < weight k c
         back_less said is on =
             let p = said w _ (ready (ways w at).under) in
             let l = p.sane.0 in let h = p.fits.spent in let a = ap (weight k) is in let b = weight_on k c on in omega arith

@@ -1,8 +1,7 @@
 -- What the run's loop leans on, and what it ensures.
-use Rattle.std.specs.Prelude.{◌≡◌, true, false, List, ◌∷◌, ℕ, ◌≤◌, ◌<◌, eqb, length, take, if◌then◌else◌}
+use Rattle.std.specs.Prelude.{◌≡◌, Bool, true, false, List, ◌∷◌, ℕ, ◌≤◌, ◌<◌, eqb, length, take, if◌then◌else◌}
 use Rattle.model.specs.declared.Fault.{Fault}
 use Rattle.model.specs.declared.Frame.{Frame}
-use Rattle.model.specs.Values.{fault_number}
 use Rattle.model.specs.Heap.{heap_of}
 use Rattle.model.specs.Programs.{function_at}
 use Rattle.model.specs.Steps.{World, State}
@@ -15,6 +14,8 @@ use Rattle.run_arms.specs.declared.Going.{Going}
 use Rattle.run_arms.specs.Links.{Around, around, state_of, frame_in}
 use Rattle.run_steps.specs.Links.{Lent, Fits, progress_in}
 use Rattle.run_loop.specs.declared.Course.{Course}
+use Rattle.run_loop.specs.declared.Turn.{Turn}
+use Rattle.run_loop.specs.declared.Turn.TheVariants as t
 
 -- the code of function i, by its word: main and the others have separate stores
 unfoldable pub code_in : List ℕ → List ℕ → List ℕ → ℕ → List ℕ
@@ -42,16 +43,16 @@ stands k c s x frames = state_in k c.going c.entered s x frames
 
 -- the end e of a run as its course says it, with the stores and the frames as they then are
 pub data Ends (w : World) (k : Fixed) (e : Ended) (c : Course) (s x : List ℕ) (frames : List Frame) : Type 0 where
-  over : c.fault ≡ 0
+  over : c.turn ≡ t.Over
       → e ≡ ended (progress_in c.going x) (stands k c s x frames)
       → Sane w (stands k c s x frames)
       → Ends w k e c s x frames
-  pause : c.fault ≡ 13
+  pause : c.turn ≡ t.Paused
       → e ≡ paused (progress_in c.going x) (stands k c s x frames)
       → Sane w (stands k c s x frames)
       → isEnd w (stands k c s x frames) ≡ false
       → Ends w k e c s x frames
-  stop : (f : Fault) → c.fault ≡ fault_number f
+  stop : (f : Fault) → c.turn ≡ t.Stopped f
       → e ≡ stopped f (stands k c s x frames) (progress_in c.going x)
       → traceable w.functions (frame_in c.going c.entered ∷ callers_of c.going.callers frames) ≡ true
       → Ends w k e c s x frames
@@ -66,17 +67,29 @@ pub record TurnsPost (w : World) (k : Fixed) (g : Going) (e : ℕ) (s x : List �
 
 -- ---- a course after each event
 
+abbrev pub is_on : Turn → Bool
+is_on t.On = true
+is_on t.Over = false
+is_on t.Paused = false
+is_on (t.Stopped f) = false
+
+abbrev pub stands_paused : Turn → Bool
+stands_paused t.On = false
+stands_paused t.Over = false
+stands_paused t.Paused = true
+stands_paused (t.Stopped f) = false
+
 abbrev pub goes_on : Going → (entered : ℕ) → Course
-goes_on g e = record { going = g; entered = e; on = true; fault = 0 }
+goes_on g e = record { going = g; entered = e; turn = t.On }
 
 abbrev pub is_over : Going → (entered : ℕ) → Course
-is_over g e = record { going = g; entered = e; on = false; fault = 0 }
+is_over g e = record { going = g; entered = e; turn = t.Over }
 
 abbrev pub is_stopped : Going → (entered : ℕ) → Fault → Course
-is_stopped g e f = record { going = g; entered = e; on = false; fault = fault_number f }
+is_stopped g e f = record { going = g; entered = e; turn = t.Stopped f }
 
 abbrev pub is_paused : Going → (entered : ℕ) → Course
-is_paused g e = record { going = g; entered = e; on = false; fault = 13 }
+is_paused g e = record { going = g; entered = e; turn = t.Paused }
 
 -- the machine in the frame f, with n callers
 abbrev pub in_frame : Going → ℕ → Frame → Going

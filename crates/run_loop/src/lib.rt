@@ -6,7 +6,7 @@ ghost use Rattle.model.specs.Values.{fault_number};
 ghost use Rattle.model.specs.Steps.{World};
 ghost use Rattle.run_arms.specs.Links.{Around, frame_in, entered};
 ghost use Rattle.run_steps.specs.Links.{Ready, ExecPost};
-ghost use Rattle.run_loop.specs.Links.{code_in, goes_on, goes_in, is_over, is_stopped, is_paused, Under, TurnsPost};
+ghost use Rattle.run_loop.specs.Links.{code_in, is_on, stands_paused, goes_on, goes_in, is_over, is_stopped, is_paused, Under, TurnsPost};
 
 use frames::{push_frame, read_frame};
 use layout::reads::{part, second};
@@ -14,19 +14,26 @@ use model::{Fault, Frame};
 use run_arms::{Fixed, Going};
 use run_steps::Event;
 
-// How far a run has come: the machine, when its current frame was entered, whether it goes on, and the number of the fault that has stopped it (0:
-// none). 13 is none of a step: the run is paused before an instruction that its units do not pay for.
+// How it is with a run: it goes on, it has ended, it is paused before an instruction that its units do not pay for, or a fault has stopped it.
+#[derive(Clone, Copy)]
+pub enum Turn {
+    On,
+    Over,
+    Paused,
+    Stopped(Fault),
+}
+
+// How far a run has come: the machine, when its current frame was entered, and how it is with it.
 #[derive(Clone, Copy)]
 pub struct Course {
     pub going: Going,
     pub entered: u64,
-    pub on: bool,
-    pub fault: u8,
+    pub turn: Turn,
 }
 
 // The number that a fault comes back as.
 #[tactic(auto, unfolding(model::specs::Values::fault_number))]
-fn fault_number(f: Fault) -> u8
+pub fn fault_number(f: Fault) -> u8
     ensures { result ≡ fault_number f }
 {
     match f {
@@ -86,6 +93,26 @@ fn advance(
     run_steps::exec(k, g, code, constants, functions, taken, stack, cells)
 }
 
+// Whether a run goes on.
+fn is_on(turn: Turn) -> bool
+    ensures { result ≡ is_on turn }
+{
+    match turn {
+        Turn::On => true,
+        _ => false,
+    }
+}
+
+// Whether a run is paused.
+pub fn stands_paused(turn: Turn) -> bool
+    ensures { result ≡ stands_paused turn }
+{
+    match turn {
+        Turn::Paused => true,
+        _ => false,
+    }
+}
+
 // A run that starts, or goes on, at g.
 fn begun(g: Going, entered: u64) -> Course
     ensures { result ≡ goes_on g entered }
@@ -93,8 +120,7 @@ fn begun(g: Going, entered: u64) -> Course
     Course {
         going: g,
         entered,
-        on: true,
-        fault: 0,
+        turn: Turn::On,
     }
 }
 
@@ -142,8 +168,7 @@ fn over(g: Going, entered: u64) -> Course
     Course {
         going: g,
         entered,
-        on: false,
-        fault: 0,
+        turn: Turn::Over,
     }
 }
 
@@ -154,8 +179,7 @@ fn stopped(g: Going, entered: u64, f: Fault) -> Course
     Course {
         going: g,
         entered,
-        on: false,
-        fault: fault_number(f),
+        turn: Turn::Stopped(f),
     }
 }
 
@@ -166,8 +190,7 @@ fn paused(g: Going, entered: u64) -> Course
     Course {
         going: g,
         entered,
-        on: false,
-        fault: 13,
+        turn: Turn::Paused,
     }
 }
 
@@ -190,7 +213,8 @@ pub fn turns(
     ensures { (w : World) → Under w k start entered n constants.now functions.now text.now main.now other.now stack.old cells.old frames.old → TurnsPost w k start entered stack.old cells.old frames.old result stack.new cells.new frames.new }
 {
     let mut c = begun(start, entered);
-    while c.on {
+    // How many frames are entered the code says, so this is no `for`.
+    while is_on(c.turn) {
         match advance(
             k, c.going, n, constants, functions, text, main, other, stack, cells,
         ) {

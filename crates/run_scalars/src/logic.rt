@@ -3,9 +3,8 @@ ghost use Rattle.std.specs.Prelude.{◌≡◌, ◌<◌};
 ghost use Rattle.model.specs.Steps.{logic_step, not_step, jump_step, jump_if_false_step};
 ghost use Rattle.run_arms.specs.Links.{Within, ArmPost, connective};
 
-use model::{Fault, Found, Value};
+use model::{Fault, Value};
 use run_arms::{Answer, Fixed, Going};
-use value::pops::Booleans;
 use value::{pops, words};
 
 // x and y, or x or y.
@@ -26,8 +25,8 @@ pub fn logical(k: Fixed, g: Going, and: bool, stack: &mut [u64]) -> Answer
 {
     let sp = g.sp;
     match pops::two_booleans(stack, sp) {
-        Booleans::Bad(f) => Answer::Stopped(g, f),
-        Booleans::Two(x, y) => {
+        Err(f) => Answer::Stopped(g, f),
+        Ok((x, y)) => {
             let count = sp - 1;
             words::write_value(stack, count - 1, Value::Boolean(joined(and, x, y)));
             Answer::Went(Going { sp: count, ..g })
@@ -41,7 +40,7 @@ pub fn logical_neg(k: Fixed, g: Going, stack: &mut [u64]) -> Answer
     ensures { ArmPost not_step k g stack.old result stack.new }
 {
     let sp = g.sp;
-    let Found::Got(v) = pops::pop(stack, sp) else {
+    let Ok(v) = pops::pop(stack, sp) else {
         return Answer::Stopped(g, Fault::TooFewValues);
     };
     let Value::Boolean(x) = v else {
@@ -66,7 +65,7 @@ pub fn jump_if_false(k: Fixed, g: Going, a: usize, stack: &[u64]) -> Answer
     ensures { ArmPost (jump_if_false_step a) k g stack.now result stack.now }
 {
     let sp = g.sp;
-    let Found::Got(v) = pops::pop(stack, sp) else {
+    let Ok(v) = pops::pop(stack, sp) else {
         return Answer::Stopped(g, Fault::TooFewValues);
     };
     let Value::Boolean(x) = v else {

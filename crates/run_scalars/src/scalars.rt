@@ -2,9 +2,8 @@
 ghost use Rattle.model.specs.Steps.{World, negate_step, arithmetic_step, ordering_step};
 ghost use Rattle.run_arms.specs.Links.{Within, Suits, ArmPost};
 
-use model::{Arith, Fault, Found, Order, Value};
+use model::{Arith, Fault, Order, Value};
 use run_arms::{Answer, Fixed, Going};
-use value::pops::Scalars;
 use value::{pops, scalars, words};
 
 // Negate.
@@ -13,7 +12,7 @@ pub fn negate(k: Fixed, g: Going, stack: &mut [u64]) -> Answer
     ensures { ArmPost negate_step k g stack.old result stack.new }
 {
     let sp = g.sp;
-    let Found::Got(v) = pops::pop(stack, sp) else {
+    let Ok(v) = pops::pop(stack, sp) else {
         return Answer::Stopped(g, Fault::TooFewValues);
     };
     let Value::Scalar(x) = v else {
@@ -30,8 +29,8 @@ pub fn arithmetic(k: Fixed, g: Going, which: Arith, stack: &mut [u64]) -> Answer
 {
     let sp = g.sp;
     match pops::two_scalars(stack, sp) {
-        Scalars::Bad(f) => Answer::Stopped(g, f),
-        Scalars::Two(x, y) => {
+        Err(f) => Answer::Stopped(g, f),
+        Ok((x, y)) => {
             if scalars::zero_divisor(which, y) {
                 return Answer::Stopped(g, Fault::ZeroDivisor);
             }
@@ -53,8 +52,8 @@ pub fn ordering(k: Fixed, g: Going, which: Order, stack: &mut [u64]) -> Answer
 {
     let sp = g.sp;
     match pops::two_scalars(stack, sp) {
-        Scalars::Bad(f) => Answer::Stopped(g, f),
-        Scalars::Two(x, y) => {
+        Err(f) => Answer::Stopped(g, f),
+        Ok((x, y)) => {
             let count = sp - 1;
             words::write_value(
                 stack,

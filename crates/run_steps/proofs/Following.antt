@@ -7,7 +7,6 @@ use native.Mathlib.Numerals.{add-one}
 use native.Mathlib.Omega.{arith}
 use borrow.Author.Tests.{le-leb, lt-leb, ne_eqb}
 use lib.ListN.{length, length-append}
-use Rattle.model.specs.declared.Last.TheVariants.{Is}
 use Rattle.model.specs.declared.Fault.{Fault}
 use Rattle.model.specs.declared.Frame.{Frame}
 use Rattle.model.specs.Values.{kind, payload}
@@ -35,6 +34,7 @@ use Rattle.run_arms.specs.Links.{Around, around, state_of, outcome_of, going_in,
 use Rattle.run_steps.specs.declared.Event.{Event}
 use Rattle.run_steps.specs.declared.Event.TheVariants.{Over, Call, Back, Stopped, Paused}
 use Rattle.run_steps.specs.Links.{Lent, Ready, answer_in, progress_in, CountedPost, back_in, after_event, going_at, SaneAt, ExecPost}
+use Rattle.std.specs.Prelude.{Some}
 
 -- ---- a step that keeps the callers keeps the function
 
@@ -287,9 +287,9 @@ module _ {w : World} {ar : Around} {k : Fixed} {code constants functions text : 
     unfolding next answer_in
     returned_on h {d} {n} {s'} {x'} p c e =
         let q : sane.Returns w (state_of k g s x ar) d.value (with_last d.value (state_of k d.going s' x' ar)) = kept h p in
-        let a : (heap_of d.going.used x' ≡ heap_of g.used x) × (Is d.value ≡ Is d.value) = adds h p in
+        let a : (heap_of d.going.used x' ≡ heap_of g.used x) × (Some d.value ≡ Some d.value) = adds h p in
         let l : (g.spent < d.going.spent) × (d.going.spent ≤ k.given) = paid h p in
-        let last : last_in (kind d.value) (payload d.value) ≡ Is d.value = last_words d.value c.fine in
+        let last : last_in (kind d.value) (payload d.value) ≡ Some d.value = last_words d.value c.fine in
         rw c.is (record {
           ready = record {
             lent = lent_on at.lent e;

@@ -1,7 +1,5 @@
 -- What the code leans on while a run is under way, and what the steps inside one function ensure.
-use Rattle.std.specs.Prelude.{◌≡◌, true, false, List, [], ◌∷◌, ℕ, suc, ◌*◌, ◌≤◌, ◌<◌, eqb, length, if◌then◌else◌}
-use Rattle.model.specs.declared.Last.{Last}
-use Rattle.model.specs.declared.Last.TheVariants.{Nothing}
+use Rattle.std.specs.Prelude.{◌≡◌, true, false, List, [], ◌∷◌, ℕ, suc, ◌*◌, ◌≤◌, ◌<◌, eqb, length, if◌then◌else◌, None, Option}
 use Rattle.model.specs.declared.Frame.{Frame}
 use Rattle.model.specs.Values.{places, kind, payload, values_from}
 use Rattle.model.specs.Heap.{heap_of}
@@ -18,6 +16,7 @@ use Rattle.value.specs.Links.{Fine, last_in}
 use Rattle.run_arms.specs.Links.{Around, Within, Suits, Named, CellsWithin, state_of, frame_in, entered}
 use Rattle.run_steps.specs.declared.Event.{Event}
 use Rattle.run_steps.specs.declared.Event.TheVariants.{Over, Call, Back, Stopped, Paused}
+use Rattle.model.specs.declared.Value.{Value}
 
 -- the world is what the lent slices say
 pub record Lent (w : World) (k : Fixed) (constants functions text cells : List ℕ) : Type 0 where
@@ -31,8 +30,8 @@ pub record Lent (w : World) (k : Fixed) (constants functions text cells : List �
   pub sane : SaneWorld w
 
 -- the answer so far: the last result, once a root Return has set it
-unfoldable pub answer_in : Going → Last
-answer_in g = if eqb g.returns 0 then Nothing else last_in g.kind g.payload
+unfoldable pub answer_in : Going → Option Value
+answer_in g = if eqb g.returns 0 then None else last_in g.kind g.payload
 
 -- how far the run has come
 abbrev pub progress_in : Going → List ℕ → Progress

@@ -198,6 +198,7 @@ pub fn exec(
     ensures { (w : World) (a : Around) → Ready w a k start code.now constants.now functions.now text.now stack.old cells.old → ExecPost w a k start stack.old cells.old result stack.new cells.new }
 {
     let mut g = start;
+    // What an instruction does says where the next one stands, so this is no `for`.
     while g.position < code.len() {
         match step(k, g, code, constants, functions, text, stack, cells) {
             Answer::Went(next) => {

@@ -3,47 +3,40 @@
 #![tactic(auto)]
 
 ghost use Rattle.streams.specs.Reads.{ReadAs, IsPrefixLen};
+ghost use Rattle.streams.specs.Answers.{Shown};
+ghost use Rattle.streams.specs.Saying.{SaidBy, Fits};
 
 use std::io;
 use std::io::Read;
 
-// What came of reading: so many bytes of the store, or a read that failed.
-#[derive(Clone, Copy)]
-pub enum Input {
-    Bytes(usize),
-    Failed,
-}
-
 // One read: at most as many bytes as the store has, none at the input's end.
-fn read_some(rt: &impl Eprint, reader: &mut impl Read, store: &mut [u8]) -> Input
+fn read_some(rt: &impl Eprint, reader: &mut impl Read, store: &mut [u8]) -> Option<usize>
     ensures { ReadAs result store.new }
 {
     match reader.read(store) {
-        Ok(n) => Input::Bytes(n),
+        Ok(n) => Some(n),
         Err(e) => {
             let _ = eprintln!(rt; "chaffwheel: standard input cannot be read: {e}");
-            Input::Failed
+            None
         }
     }
 }
 
 // Reads standard input until it ends or the store is full, or a read fails. (`read_full` answers a failed read by a count, too.)
-pub fn read_input(rt: &(impl io::Input + Eprint), store: &mut [u8]) -> Input
+pub fn read_input(rt: &(impl io::Input + Eprint), store: &mut [u8]) -> Option<usize>
     ensures { ReadAs result store.new }
 {
     let mut reader = rt.reader();
     let mut done = 0;
+    // no for: a read says how far the loop comes
     while done < store.len() {
-        let some = read_some(rt, &mut reader, &mut store[done..]);
-        let Input::Bytes(n) = some else {
-            return Input::Failed;
-        };
+        let n = read_some(rt, &mut reader, &mut store[done..])?;
         if n == 0 {
-            return Input::Bytes(done);
+            break;
         }
         done += n;
     }
-    Input::Bytes(done)
+    Some(done)
 }
 
 // Writes the whole text to standard output, or says that it could not.
@@ -53,12 +46,32 @@ pub fn write_output(rt: &(impl Print + Eprint), text: &[u8]) {
     }
 }
 
+// Reads standard input into image, and prints what `say` puts at the front of out of what was read: it answers the length of its text. Where
+// standard input could not be read nothing is said.
+pub fn show<F: FnOnce(&[u8], &mut [u8]) -> usize>(
+    rt: &(impl io::Input + Print + Eprint),
+    image: &mut [u8],
+    out: &mut [u8],
+    say: F,
+)
+    requires callable { F.IsAlwaysCallable say }
+    requires fits { Fits F.FnOnce say }
+    ensures { Shown (SaidBy F.FnOnce say) image.new out.old out.new }
+{
+    let Some(n) = read_input(rt, image) else {
+        return;
+    };
+    let len = say(&image[..n], out);
+    write_output(rt, &out[..len]);
+}
+
 // Reads until buf is full, the input ends or a read fails, and returns how many bytes it put at the start of buf. On an empty buf it makes no
 // call.
 pub fn read_full(reader: &mut impl Read, buf: &mut [u8]) -> usize
     ensures { IsPrefixLen result buf.new }
 {
     let mut at = 0;
+    // likewise
     while at < buf.len() {
         let Ok(n) = reader.read(&mut buf[at..]) else {
             break;

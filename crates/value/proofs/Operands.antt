@@ -13,34 +13,29 @@ use Rattle.model.specs.declared.Value.{Value}
 use Rattle.model.specs.declared.Value.TheVariants as v
 use Rattle.model.specs.declared.Fault.{Fault}
 use Rattle.model.specs.declared.Fault.TheVariants as f
-use Rattle.model.specs.declared.Found.{Found}
-use Rattle.model.specs.declared.Found.TheVariants as g
-use Rattle.value.specs.declared.pops.Scalars.{Scalars}
-use Rattle.value.specs.declared.pops.Scalars.TheVariants as s
-use Rattle.value.specs.declared.pops.Booleans.{Booleans}
-use Rattle.value.specs.declared.pops.Booleans.TheVariants as b
 use Rattle.model.specs.Values.{if_scalar, if_boolean, popping, popping_scalar, popping_boolean, value_at, vals}
 use Rattle.value.specs.Links.{on_scalars, on_booleans, booleans_of, pop_of, scalars_of}
+use Rattle.std.specs.Prelude.{Err, Ok, Result}
 
 -- ---- one pop
 
-pub pop_none : (n : ℕ) (s : List ℕ) → n ≡ 0 → g.Bad f.TooFewValues ≡ pop_of (vals n s)
+pub pop_none : (n : ℕ) (s : List ℕ) → n ≡ 0 → Err f.TooFewValues ≡ pop_of (vals n s)
 unfolding pop_of vals
 pop_none n s e = rw e
 
-pub pop_top : (n : ℕ) (s : List ℕ) {x : Value} → (n ≡ 0 → ⊥) → x ≡ value_at s (n - 1) → g.Got x ≡ pop_of (vals n s)
+pub pop_top : (n : ℕ) (s : List ℕ) {x : Value} → (n ≡ 0 → ⊥) → x ≡ value_at s (n - 1) → Ok x ≡ pop_of (vals n s)
 unfolding pop_of vals
 pop_top zero s h e = absurd (h refl)
-pop_top (suc n) s h e = let z : suc n - 1 ≡ n = omega arith in ap g.Got (e ∙ ap (value_at s) z)
+pop_top (suc n) s h e = let z : suc n - 1 ≡ n = omega arith in ap Ok (e ∙ ap (value_at s) z)
 
 -- no value was popped: there is none
-pub none : {vs : List Value} {p : Found} {t : Fault} → p ≡ pop_of vs → p ≡ g.Bad t → vs ≡ []
+pub none : {vs : List Value} {p : Result Value Fault} {t : Fault} → p ≡ pop_of vs → p ≡ Err t → vs ≡ []
 unfolding pop_of
 none {vs = []} e h = refl
 none {vs = x ∷ r} e h = cc
 
 -- a value was popped: it was on top
-pub got_top : (n : ℕ) (s : List ℕ) {p : Found} {x : Value} → p ≡ pop_of (vals n s) → p ≡ g.Got x → vals n s ≡ x ∷ vals (n - 1) s
+pub got_top : (n : ℕ) (s : List ℕ) {p : Result Value Fault} {x : Value} → p ≡ pop_of (vals n s) → p ≡ Ok x → vals n s ≡ x ∷ vals (n - 1) s
 unfolding pop_of vals
 got_top zero s e h = cc
 got_top (suc n) s {x = x} e h =
@@ -48,7 +43,7 @@ got_top (suc n) s {x = x} e h =
     let t : value_at s n ≡ x = cc in
     rw (z, t)
 
-pub got_some : (n : ℕ) (s : List ℕ) {p : Found} {x : Value} → p ≡ pop_of (vals n s) → p ≡ g.Got x → 1 ≤ n
+pub got_some : (n : ℕ) (s : List ℕ) {p : Result Value Fault} {x : Value} → p ≡ pop_of (vals n s) → p ≡ Ok x → 1 ≤ n
 unfolding pop_of vals
 got_some zero s e h = let z : ◌≡◌ {A = ℕ} 0 1 = cc in omega arith
 got_some (suc n) s e h = omega arith
@@ -157,12 +152,12 @@ pub on_scalars_lem : {A : Type 0} (vs : List Value) (e : Fault → A) (k : Float
     → popping_scalar vs e (λ y r. popping_scalar r e (λ x q. k x y q)) ≡ on_scalars (scalars_of vs) e (λ x y. k x y (drop 2 vs))
 unfolding popping_scalar scalars_of
 on_scalars_lem {A} vs e k =
-    let on : Scalars → A = (λ r. on_scalars r e (λ x y. k x y (drop 2 vs))) in
-    both_arm if_scalar e k vs ∙ sym (on_both if_scalar if_scalar on (into_scalar on) s.Bad s.Two vs)
+    let on : Result (Float × Float) Fault → A = (λ r. on_scalars r e (λ x y. k x y (drop 2 vs))) in
+    both_arm if_scalar e k vs ∙ sym (on_both if_scalar if_scalar on (into_scalar on) Err (λ x y. Ok (x, y)) vs)
 
 pub on_booleans_lem : {A : Type 0} (vs : List Value) (e : Fault → A) (k : Bool → Bool → List Value → A)
     → popping_boolean vs e (λ y r. popping_boolean r e (λ x q. k x y q)) ≡ on_booleans (booleans_of vs) e (λ x y. k x y (drop 2 vs))
 unfolding popping_boolean booleans_of
 on_booleans_lem {A} vs e k =
-    let on : Booleans → A = (λ r. on_booleans r e (λ x y. k x y (drop 2 vs))) in
-    both_arm if_boolean e k vs ∙ sym (on_both if_boolean if_boolean on (into_boolean on) b.Bad b.Two vs)
+    let on : Result (Bool × Bool) Fault → A = (λ r. on_booleans r e (λ x y. k x y (drop 2 vs))) in
+    both_arm if_boolean e k vs ∙ sym (on_both if_boolean if_boolean on (into_boolean on) Err (λ x y. Ok (x, y)) vs)

@@ -1,19 +1,11 @@
 -- What the answers of the code stand for.
-use Rattle.std.specs.Prelude.{◌≡◌, Bool, List, [], ◌∷◌, ℕ, ◌<◌, ◌^◌, T, eqb, Float, if◌then◌else◌}
+use Rattle.std.specs.Prelude.{◌≡◌, Bool, List, [], ◌∷◌, ℕ, ◌<◌, ◌^◌, T, eqb, Float, if◌then◌else◌, Err, None, Ok, Option, Result, Some}
 use Rattle.std.specs.Float.{binary64}
 use Rattle.std.specs.Float.Ieee.{fits}
 use Rattle.model.specs.declared.Value.{Value}
-use Rattle.model.specs.declared.Last.{Last}
-use Rattle.model.specs.declared.Last.TheVariants.{Nothing, Is}
 use Rattle.model.specs.declared.Fault.{Fault}
 use Rattle.model.specs.declared.Fault.TheVariants as f
-use Rattle.model.specs.declared.Found.{Found}
-use Rattle.model.specs.declared.Found.TheVariants as g
 use Rattle.model.specs.declared.Value.TheVariants as v
-use Rattle.value.specs.declared.pops.Scalars.{Scalars}
-use Rattle.value.specs.declared.pops.Scalars.TheVariants as s
-use Rattle.value.specs.declared.pops.Booleans.{Booleans}
-use Rattle.value.specs.declared.pops.Booleans.TheVariants as b
 use Rattle.model.specs.Values.{value_of, kind, payload, put_words, popping_scalar, popping_boolean}
 use Rattle.model.specs.Heap.{Cell, item, head, put_cell}
 
@@ -43,26 +35,26 @@ pub record Written (s : List ℕ) (i : ℕ) (x : Cell) (s' : List ℕ) : Type 0 
 
 -- ---- the last result in words: kind 7, payload 0 where there is none
 
-unfoldable pub last_in : ℕ → ℕ → Last
-last_in k a = if eqb k 7 then Nothing else Is (value_of k a)
+unfoldable pub last_in : ℕ → ℕ → Option Value
+last_in k a = if eqb k 7 then None else Some (value_of k a)
 
-unfoldable pub last_kind : Last → ℕ
-last_kind Nothing = 7
-last_kind (Is v) = kind v
+unfoldable pub last_kind : Option Value → ℕ
+last_kind None = 7
+last_kind (Some v) = kind v
 
-unfoldable pub last_payload : Last → ℕ
-last_payload Nothing = 0
-last_payload (Is v) = payload v
+unfoldable pub last_payload : Option Value → ℕ
+last_payload None = 0
+last_payload (Some v) = payload v
 
 -- ---- what an arm does with its operands, and what with the fault
 
-abbrev pub on_scalars : {A : Type 0} → Scalars → (Fault → A) → (Float → Float → A) → A
-on_scalars (s.Two x y) e k = k x y
-on_scalars (s.Bad t) e k = e t
+abbrev pub on_scalars : {A : Type 0} → Result (Float × Float) Fault → (Fault → A) → (Float → Float → A) → A
+on_scalars (Ok (x, y)) e k = k x y
+on_scalars (Err t) e k = e t
 
-abbrev pub on_booleans : {A : Type 0} → Booleans → (Fault → A) → (Bool → Bool → A) → A
-on_booleans (b.Two x y) e k = k x y
-on_booleans (b.Bad t) e k = e t
+abbrev pub on_booleans : {A : Type 0} → Result (Bool × Bool) Fault → (Fault → A) → (Bool → Bool → A) → A
+on_booleans (Ok (x, y)) e k = k x y
+on_booleans (Err t) e k = e t
 
 -- ---- a store with the value v at place i
 
@@ -72,13 +64,13 @@ put_value s i v = put_words s i (kind v) (payload v)
 -- ---- what the pops answer, of a stack whose top is first
 
 -- the value on top, or the fault
-unfoldable pub pop_of : List Value → Found
-pop_of [] = g.Bad f.TooFewValues
-pop_of (v ∷ r) = g.Got v
+unfoldable pub pop_of : List Value → Result Value Fault
+pop_of [] = Err f.TooFewValues
+pop_of (v ∷ r) = Ok v
 
 -- two scalars or two booleans: the right one is popped first
-unfoldable pub scalars_of : List Value → Scalars
-scalars_of vs = popping_scalar vs s.Bad (λ y r. popping_scalar r s.Bad (λ x q. s.Two x y))
+unfoldable pub scalars_of : List Value → Result (Float × Float) Fault
+scalars_of vs = popping_scalar vs Err (λ y r. popping_scalar r Err (λ x q. Ok (x, y)))
 
-unfoldable pub booleans_of : List Value → Booleans
-booleans_of vs = popping_boolean vs b.Bad (λ y r. popping_boolean r b.Bad (λ x q. b.Two x y))
+unfoldable pub booleans_of : List Value → Result (Bool × Bool) Fault
+booleans_of vs = popping_boolean vs Err (λ y r. popping_boolean r Err (λ x q. Ok (x, y)))

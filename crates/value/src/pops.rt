@@ -4,69 +4,56 @@ ghost use Rattle.model.specs.Values.{vals};
 ghost use Rattle.value.specs.Links.{booleans_of, pop_of, scalars_of};
 
 use crate::words;
-use model::{Fault, Found, Value};
-
-// Two popped scalars, the left one first, or the fault.
-#[derive(Clone, Copy)]
-pub enum Scalars {
-    Two(f64, f64),
-    Bad(Fault),
-}
-
-// Two popped booleans, the left one first, or the fault.
-#[derive(Clone, Copy)]
-pub enum Booleans {
-    Two(bool, bool),
-    Bad(Fault),
-}
+use model::{Fault, Value};
 
 // The value on top.
-pub fn pop(stack: &[u64], sp: usize) -> Found
+pub fn pop(stack: &[u64], sp: usize) -> Result<Value, Fault>
     requires { 2 * sp ≤ length stack.now }
     ensures { result ≡ pop_of (vals sp stack.now) }
 {
     if sp == 0 {
-        return Found::Bad(Fault::TooFewValues);
+        return Err(Fault::TooFewValues);
     }
-    Found::Got(words::read_value(stack, sp - 1))
+    Ok(words::read_value(stack, sp - 1))
 }
 
-// The two scalars on top.
-pub fn two_scalars(stack: &[u64], sp: usize) -> Scalars
+// The two scalars on top. It and its twin below stay two functions: a trait with a law for what each takes from a value would be longer than both, and hide
+// the `let .. else` that the arms are read for.
+pub fn two_scalars(stack: &[u64], sp: usize) -> Result<(f64, f64), Fault>
     requires { 2 * sp ≤ length stack.now }
     ensures { result ≡ scalars_of (vals sp stack.now) }
 {
-    let Found::Got(right) = pop(stack, sp) else {
-        return Scalars::Bad(Fault::TooFewValues);
+    let Ok(right) = pop(stack, sp) else {
+        return Err(Fault::TooFewValues);
     };
     let Value::Scalar(y) = right else {
-        return Scalars::Bad(Fault::WrongKind(right));
+        return Err(Fault::WrongKind(right));
     };
-    let Found::Got(left) = pop(stack, sp - 1) else {
-        return Scalars::Bad(Fault::TooFewValues);
+    let Ok(left) = pop(stack, sp - 1) else {
+        return Err(Fault::TooFewValues);
     };
     let Value::Scalar(x) = left else {
-        return Scalars::Bad(Fault::WrongKind(left));
+        return Err(Fault::WrongKind(left));
     };
-    Scalars::Two(x, y)
+    Ok((x, y))
 }
 
-// The two booleans on top.
-pub fn two_booleans(stack: &[u64], sp: usize) -> Booleans
+// The two booleans on top. A trait of what is popped would have this instance and that of `two_scalars` alone, and laws longer than both bodies: no plainer.
+pub fn two_booleans(stack: &[u64], sp: usize) -> Result<(bool, bool), Fault>
     requires { 2 * sp ≤ length stack.now }
     ensures { result ≡ booleans_of (vals sp stack.now) }
 {
-    let Found::Got(right) = pop(stack, sp) else {
-        return Booleans::Bad(Fault::TooFewValues);
+    let Ok(right) = pop(stack, sp) else {
+        return Err(Fault::TooFewValues);
     };
-    let Value::Boolean(y) = right else {
-        return Booleans::Bad(Fault::WrongKind(right));
+    let Value::Boolean(q) = right else {
+        return Err(Fault::WrongKind(right));
     };
-    let Found::Got(left) = pop(stack, sp - 1) else {
-        return Booleans::Bad(Fault::TooFewValues);
+    let Ok(left) = pop(stack, sp - 1) else {
+        return Err(Fault::TooFewValues);
     };
-    let Value::Boolean(x) = left else {
-        return Booleans::Bad(Fault::WrongKind(left));
+    let Value::Boolean(p) = left else {
+        return Err(Fault::WrongKind(left));
     };
-    Booleans::Two(x, y)
+    Ok((p, q))
 }

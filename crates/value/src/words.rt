@@ -7,7 +7,7 @@ ghost use Rattle.model.specs.Heap.{item, head, header_of, exact_cell};
 ghost use Rattle.value.specs.Links.{PayloadOf, Written, last_in, last_kind, last_payload};
 
 use layout::writes::put_words;
-use model::{HALF, Header, Last, Value};
+use model::{HALF, Header, Value};
 
 // The bits of x; of any NaN 7FF8000000000000.
 pub fn to_word(x: f64) -> u64
@@ -150,31 +150,31 @@ pub fn exact_cell(s: &[u64], i: usize) -> bool
 }
 
 // The kind of the last result, 7 where there is none.
-pub fn last_kind(last: Last) -> u64
+pub fn last_kind(last: Option<Value>) -> u64
     ensures { result ≡ last_kind last }
 {
     match last {
-        Last::Nothing => 7,
-        Last::Is(v) => kind_of(v),
+        None => 7,
+        Some(v) => kind_of(v),
     }
 }
 
 // And its payload: the two words stand for it.
-pub fn last_payload(last: Last) -> u64
+pub fn last_payload(last: Option<Value>) -> u64
     ensures { (result ≡ last_payload last) × (last_in (last_kind last) result ≡ last) }
 {
     match last {
-        Last::Nothing => 0,
-        Last::Is(v) => payload_of(v),
+        None => 0,
+        Some(v) => payload_of(v),
     }
 }
 
 // The last result from its words.
-pub fn last_in(kind: u64, payload: u64) -> Last
+pub fn last_in(kind: u64, payload: u64) -> Option<Value>
     ensures { result ≡ last_in kind payload }
 {
     if kind == 7 {
-        return Last::Nothing;
+        return None;
     }
-    Last::Is(value_of(kind, payload))
+    Some(value_of(kind, payload))
 }

@@ -1,9 +1,8 @@
 -- `cells::equal` meets its contract.
 use mathlib.Core.Path.{refl, subst}
-use Prim.Native.Nat.{ℕ, ◌<◌, ◌-◌}
+use Prim.Native.Nat.{ℕ, ◌<◌}
 use native.Mathlib.Omega.{arith}
 use borrow.Author.Rules.{rules}
-use borrow.Fn.PlainCycle.{is}
 use Rattle.cells.proofs.Turns.{rank, inside, room_p, room_q, counts_differ, numbers_differ, turn_start, no_units, room_x, room_y, falls as falls-in, asked, differs, ran_out, again, said_is, finish}
 use Rattle.cells.proofs.+equal.Goals as goal
 
@@ -81,15 +80,16 @@ returns-then-not-alike t c =
     c.read_header-h.ensures c.read_header-k.ensures c.if-count-k.false c.if-h-k.false _ _ _
     c.loop-i.invariant c.loop-i-test.true _ _ c.read_value-x.ensures
     c.read_value-y.ensures _ refl c.if-rest-eq0.false _ c.equal.ensures _ _
-    c.in-Done.is (search rules)
+    c.in_ok-alike-in-Blocks.was (search rules)
 
-pub returns-in-Out : goal.returns-in-Out
-returns-in-Out t c =
-    ran_out _ _ _ _ _ c.requires _ c.compare.ensures _ _ c.in-Blocks.is _ _
+pub returns-in_err-alike-in-Blocks : goal.returns-in_err-alike-in-Blocks
+returns-in_err-alike-in-Blocks t c =
+    rw c.from_residual.ensures
+    (ran_out _ _ _ _ _ c.requires _ c.compare.ensures _ _ c.in-Blocks.is _ _
     c.read_header-h.ensures c.read_header-k.ensures c.if-count-k.false c.if-h-k.false _ _ _
     c.loop-i.invariant c.loop-i-test.true _ _ c.read_value-x.ensures
     c.read_value-y.ensures _ refl c.if-rest-eq0.false _ c.equal.ensures
-    c.in-Out.is
+    c.in_err-alike-in-Blocks.was)
 
 pub loop-i-preserved : goal.loop-i-preserved
 loop-i-preserved t c =
@@ -97,7 +97,7 @@ loop-i-preserved t c =
     c.read_header-h.ensures c.read_header-k.ensures c.if-count-k.false c.if-h-k.false _ _ _
     c.loop-i.invariant c.loop-i-test.true _ _ c.read_value-x.ensures
     c.read_value-y.ensures _ refl c.if-rest-eq0.false _ c.equal.ensures _ _
-    c.in-Done.is (search rules)
+    c.in_ok-alike-in-Blocks.was (search rules)
 
 pub returns-in-Said : goal.returns-in-Said
 returns-in-Said t c = search (rules, said_is)

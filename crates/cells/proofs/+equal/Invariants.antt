@@ -1,5 +1,4 @@
 -- `cells::equal` meets its contract.
-use Prim.Native.Nat.{◌-◌}
 use Rattle.model.specs.Heap.{heap_of}
 use Rattle.cells.proofs.Turns.{rank, Turn}
 use Rattle.cells.proofs.+equal.Given as goal
@@ -10,6 +9,3 @@ decreases-equal l = rank l.a
 abbrev pub invariant-loop-i : goal.invariant-loop-i
 invariant-loop-i l =
     Turn l.text (heap_of l.used l.cells) l.first l.second l.count l.left l.rest l.i
-
-abbrev pub decreases-loop-i : goal.decreases-loop-i
-decreases-loop-i l = l.count - l.i

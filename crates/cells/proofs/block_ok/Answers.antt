@@ -1,13 +1,8 @@
 -- `cells::block_ok` meets its contract.
 use borrow.Author.Rules.{rules}
-use Prim.Native.Nat.{◌-◌}
 use native.Mathlib.Omega.{arith}
-use Rattle.cells.proofs.Scans.{whole_room, walk_start, not_whole, element_room, bad_head, bad_place, held, walk_deeper, walk_same, bad_64, bad_shallow, last_is}
+use Rattle.cells.proofs.Scans.{whole_room, walk_start, not_whole, element_room, bad_head, bad_place, held, walk_more, bad_64, bad_shallow, last_is}
 use Rattle.cells.proofs.block_ok.Goals as goal
-use Rattle.cells.proofs.block_ok.Goals.{then-d-e, else-d-e}
-
-pub whole-requires : goal.whole-requires
-whole-requires c = c.requires.0
 
 pub returns-then-not-whole : goal.returns-then-not-whole
 returns-then-not-whole c = search (rules, not_whole)
@@ -36,15 +31,13 @@ read_value-v-requires c = search (rules, element_room)
 pub returns-then-not-placed : goal.returns-then-not-placed
 returns-then-not-placed c = search (rules, bad_place)
 
-pub depth-e-requires : goal.depth-e-requires
-depth-e-requires c = (omega arith, search (rules, held))
+pub depth-requires : goal.depth-requires
+depth-requires c = (omega arith, search (rules, held))
 
 pub loop-i-preserved : goal.loop-i-preserved
 loop-i-preserved c =
-    elim c.if-d-e.branch [
-      | then-d-e w ↦ search (rules, walk_deeper)
-      | else-d-e w ↦ search (rules, walk_same)
-    ]
+    walk_more _ _ _ _ _ c.whole.ensures (search rules) _ c.read_header-h.ensures _ _ c.loop-i.invariant c.loop-i-test.true _
+    c.is_header.ensures c.if-is_header.false _ c.read_value-v.ensures _ c.placed.ensures (search rules) _ c.depth.ensures _ (search rules)
 
 pub returns-then-told-gt-DEPTH_LIMIT : goal.returns-then-told-gt-DEPTH_LIMIT
 returns-then-told-gt-DEPTH_LIMIT c = search (rules, bad_64)

@@ -1,11 +1,7 @@
 -- `cells::block_ok` meets its contract.
-use Prim.Native.Nat.{◌-◌}
 use Rattle.model.specs.Heap.{heap_of}
 use Rattle.cells.proofs.Scans.{Walk}
 use Rattle.cells.proofs.block_ok.Given as goal
 
 abbrev pub invariant-loop-i : goal.invariant-loop-i
 invariant-loop-i l = Walk l.texts (heap_of l.used l.cells) l.p l.count l.d l.i
-
-abbrev pub decreases-loop-i : goal.decreases-loop-i
-decreases-loop-i l = l.count - l.i

@@ -1,5 +1,4 @@
 -- `cells::deepest_of` meets its contract.
-use Prim.Native.Nat.{◌-◌}
 use Rattle.model.specs.Values.{vals}
 use Rattle.model.specs.Heap.{heap_of}
 use Rattle.cells.specs.Links.{elements_of}
@@ -8,6 +7,3 @@ use Rattle.cells.proofs.deepest_of.Given as goal
 
 abbrev pub invariant-loop-i : goal.invariant-loop-i
 invariant-loop-i l = Depth (heap_of l.used l.cells) (elements_of l.list l.n (vals l.sp l.stack)) l.n l.d l.i
-
-abbrev pub decreases-loop-i : goal.decreases-loop-i
-decreases-loop-i l = l.n - l.i

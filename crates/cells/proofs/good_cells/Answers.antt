@@ -1,6 +1,5 @@
 -- `cells::good_cells` meets its contract.
 use borrow.Author.Rules.{rules}
-use Prim.Native.Nat.{◌-◌}
 use native.Mathlib.Omega.{arith}
 use Rattle.cells.proofs.Scans.{not_exact, scan_start, scan_end, scan_bad, block_room, block_ends, scan_less, scan_more}
 use Rattle.cells.proofs.good_cells.Goals as goal

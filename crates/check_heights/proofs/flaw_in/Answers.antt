@@ -1,5 +1,5 @@
 -- `flaw_in`: what the pass came upon.
-use Rattle.check_heights.proofs.Answers.{part_length, part_ready, no_flaw, flaw_told}
+use Rattle.check_heights.proofs.Answers.{part_length, part_ready, flaw_or_none}
 use borrow.Author.Rules.{rules}
 use Rattle.check_heights.proofs.flaw_in.Goals as goal
 
@@ -9,8 +9,5 @@ slice_bounds-pass-end-2 c = search (rules, part_length)
 pub pass-requires : goal.pass-requires
 pass-requires c = search (rules, part_ready)
 
-pub returns-in-Greatest : goal.returns-in-Greatest
-returns-in-Greatest c = search (rules, no_flaw)
-
-pub returns-in-Flawed : goal.returns-in-Flawed
-returns-in-Flawed c = search (rules, flaw_told)
+pub returns : goal.returns
+returns c = search (rules, flaw_or_none)

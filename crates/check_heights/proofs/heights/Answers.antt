@@ -1,5 +1,5 @@
 -- `heights`: a part of the table is enough.
-use Rattle.check_heights.proofs.Answers.{part_length, part_ready, pass_measures, pass_breaks}
+use Rattle.check_heights.proofs.Answers.{part_length, part_ready, measured_or_not}
 use borrow.Author.Rules.{rules}
 use Rattle.check_heights.proofs.heights.Goals as goal
 
@@ -9,8 +9,5 @@ slice_bounds-pass-end-2 c = search (rules, part_length)
 pub pass-requires : goal.pass-requires
 pass-requires c = search (rules, part_ready)
 
-pub returns-in-Greatest : goal.returns-in-Greatest
-returns-in-Greatest c = search (rules, pass_measures)
-
-pub returns-in-Flawed : goal.returns-in-Flawed
-returns-in-Flawed c = search (rules, pass_breaks)
+pub returns : goal.returns
+returns c = search (rules, measured_or_not)

@@ -1,17 +1,12 @@
--- `put_heights`: a word a turn.
-use borrow.Author.Rules.{rules}
-use Rattle.layout.proofs.Writing.{nothing_yet, whole}
-use Rattle.check_image.proofs.Putting.{next_word_lem}
+-- `put_heights`: the words, and what stood behind them.
+use mathlib.Core.List.{List, ◌++◌}
+use mathlib.Core.Path.{sym, ap, ◌∙◌}
+use Prim.Native.Nat.{ℕ}
+use lib.ListN.{length, drop}
+use Rattle.laws_images.proofs.Held.{written_front}
 use Rattle.check_image.proofs.put_heights.Goals as goal
 
-pub loop-f-init : goal.loop-f-init
-loop-f-init c = nothing_yet _ 0 _
-
-pub loop-f-preserved : goal.loop-f-preserved
-loop-f-preserved c = search (rules, next_word_lem)
-
-pub shape_of-heights : goal.shape_of-heights
-shape_of-heights c = c.loop-f.invariant.same
-
 pub returns : goal.returns
-returns c = whole c.loop-f.invariant c.loop-f-test.false
+returns c =
+    ap (λ (l : List ℕ). l ++ drop (length c.args.greatest.now) c.args.heights.now) c.copy_from_slice.ensures.after
+    ∙ sym (written_front c.args.heights.now c.args.greatest.now c.requires)

@@ -1,5 +1,4 @@
 -- `first_call`: an instruction a turn.
-use Prim.Native.Nat.{◌-◌}
 use Rattle.check_code.proofs.Instructions.{nearer}
 use Rattle.check_places.proofs.Calling.{none_looked_at, none_calls, one_calls, one_passed_over}
 use Rattle.std.proofs.Common.{rules}

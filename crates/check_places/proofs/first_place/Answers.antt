@@ -1,5 +1,4 @@
 -- `first_place`: an instruction a turn, over the marks.
-use Prim.Native.Nat.{◌-◌}
 use native.Mathlib.Omega.{arith}
 use Rattle.check_code.proofs.Instructions.{nearer}
 use Rattle.check_places.proofs.Turning.{none_sought, none_breaks, one_breaks, one_keeps}

@@ -1,114 +1,63 @@
+use Rattle.std.proofs.Common.{ap}
 use Rattle.model.specs.Basics.{ascii}
 use Rattle.console_script.specs.Words.{blank}
-use Rattle.console_emission.specs.Emits.{not_known, boolean_args, said_bytes, constant_asked}
+use Rattle.console_script.specs.Stored.{stored}
+use Rattle.layout.specs.Links.{constants_lent}
+use Rattle.console_emission.specs.Emits.{known, boolean_args, said_bytes, constant_asked}
 use Rattle.console_emission.proofs.emit_constant.Goals as goal
+use Rattle.console_emission.proofs.emit_constant.Goals.{then-same_bytes-3, else-same_bytes-3}
 
-pub returns-then-n : goal.returns-then-n
-unfolding ascii boolean_args said_bytes constant_asked
-returns-then-n c =
-    λ rest. rw (
+pub returns-then-same_bytes : goal.returns-then-same_bytes
+unfolding ascii blank boolean_args said_bytes constant_asked constants_lent
+returns-then-same_bytes c =
+    rw (
       ← c.word-what.ensures,
       ← c.same_bytes.ensures,
       c.if-same_bytes.true,
       ← c.words_from.ensures,
-      ← c.hex-n.ensures,
-      c.if-n.true,
-    ) (c.add_constant.ensures rest)
+      ← c.in_ok-n.ensures,
+    ) (ap known (c.add_constant.ensures (stored c.args.p.now)).means)
 
-pub returns-then-same_bytes : goal.returns-then-same_bytes
-unfolding ascii not_known boolean_args said_bytes constant_asked
-returns-then-same_bytes c =
-    λ rest. record {
-      means =
-          rw (
-            ← c.word-what.ensures,
-            ← c.same_bytes.ensures,
-            c.if-same_bytes.true,
-            ← c.words_from.ensures,
-            ← c.hex-n.ensures,
-            c.if-n.false,
-            c.unknown.ensures,
-          );
-    }
-
-pub returns-then-n-2 : goal.returns-then-n-2
-unfolding ascii boolean_args said_bytes constant_asked
-returns-then-n-2 c =
-    λ rest. rw (
+pub returns-then-same_bytes-2 : goal.returns-then-same_bytes-2
+unfolding ascii blank boolean_args said_bytes constant_asked constants_lent
+returns-then-same_bytes-2 c =
+    rw (
       ← c.word-what.ensures,
       ← c.same_bytes.ensures,
       c.if-same_bytes.false,
       ← c.same_bytes-2.ensures,
       c.if-same_bytes-2.true,
-      ← c.read_args-n.ensures,
-      c.if-n-2.true,
-    ) (c.add_constant-then-n-2.ensures rest)
+      ← c.in_ok-n-2.ensures,
+    ) (ap known (c.add_constant-then-same_bytes-2.ensures (stored c.args.p.now)).means)
 
-pub returns-then-same_bytes-2 : goal.returns-then-same_bytes-2
-unfolding ascii not_known boolean_args said_bytes constant_asked
-returns-then-same_bytes-2 c =
-    λ rest. record {
-      means =
-          rw (
-            ← c.word-what.ensures,
-            ← c.same_bytes.ensures,
-            c.if-same_bytes.false,
-            ← c.same_bytes-2.ensures,
-            c.if-same_bytes-2.true,
-            ← c.read_args-n.ensures,
-            c.if-n-2.false,
-            c.unknown-then-same_bytes-2.ensures,
-          );
-    }
-
-pub returns-then-same_bytes-3 : goal.returns-then-same_bytes-3
-unfolding ascii boolean_args blank said_bytes constant_asked
-returns-then-same_bytes-3 c =
-    λ rest. rw (
+pub returns-in_err-size : goal.returns-in_err-size
+unfolding ascii blank boolean_args said_bytes constant_asked constants_lent
+returns-in_err-size c =
+    rw (
+      c.from_residual-in_err-size.ensures,
       ← c.word-what.ensures,
       ← c.same_bytes.ensures,
       c.if-same_bytes.false,
       ← c.same_bytes-2.ensures,
       c.if-same_bytes-2.false,
       ← c.words_from-2.ensures,
-      ← c.read_bytes-b.ensures,
-      c.if-b.true,
-      ← c.front-lent.ensures,
-      ← c.same_bytes-then-b.ensures,
-      c.if-same_bytes-3.true,
-    ) (c.add_constant-then-same_bytes-3.ensures rest)
-
-pub returns-then-b : goal.returns-then-b
-unfolding ascii boolean_args blank said_bytes constant_asked
-returns-then-b c =
-    λ rest. rw (
-      ← c.word-what.ensures,
-      ← c.same_bytes.ensures,
-      c.if-same_bytes.false,
-      ← c.same_bytes-2.ensures,
-      c.if-same_bytes-2.false,
-      ← c.words_from-2.ensures,
-      ← c.read_bytes-b.ensures,
-      c.if-b.true,
-      ← c.front-lent.ensures,
-      ← c.same_bytes-then-b.ensures,
-      c.if-same_bytes-3.false,
-    ) (c.add_constant-then-b.ensures rest)
+      ← c.in_err-size.ensures,
+    )
 
 pub returns : goal.returns
-unfolding ascii not_known boolean_args blank said_bytes constant_asked
+unfolding ascii blank boolean_args said_bytes constant_asked constants_lent
 returns c =
-    λ rest. record {
-      means =
-          rw (
-            ← c.word-what.ensures,
-            ← c.same_bytes.ensures,
-            c.if-same_bytes.false,
-            ← c.same_bytes-2.ensures,
-            c.if-same_bytes-2.false,
-            ← c.words_from-2.ensures,
-            ← c.read_bytes-b.ensures,
-            c.if-b.false,
-            c.unknown-2.ensures,
-          );
-    }
+    rw (
+      ← c.word-what.ensures,
+      ← c.same_bytes.ensures,
+      c.if-same_bytes.false,
+      ← c.same_bytes-2.ensures,
+      c.if-same_bytes-2.false,
+      ← c.words_from-2.ensures,
+      ← c.in_ok-size.ensures,
+      ← c.front.ensures,
+      ← c.same_bytes-3.ensures,
+    ) (elim c.if-same_bytes-3.branch [
+      | then-same_bytes-3 w ↦ rw (w.if-same_bytes-3.true, ← w.kind-is) (ap known (c.add_constant-2.ensures (stored c.args.p.now)).means)
+      | else-same_bytes-3 w ↦ rw (w.if-same_bytes-3.false, ← w.kind-is) (ap known (c.add_constant-2.ensures (stored c.args.p.now)).means)
+    ])

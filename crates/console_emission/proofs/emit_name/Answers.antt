@@ -1,28 +1,22 @@
 use Rattle.console_script.specs.Words.{blank}
-use Rattle.console_emission.specs.Emits.{not_known, said_bytes, name_asked}
+use Rattle.console_emission.specs.Emits.{said_bytes, name_read, name_asked}
 use Rattle.console_emission.proofs.emit_name.Goals as goal
 
-pub returns-then-b : goal.returns-then-b
-unfolding blank said_bytes name_asked
-returns-then-b c =
-    λ rest. rw (
-      ← c.word-what.ensures,
+pub returns-in_err-size : goal.returns-in_err-size
+unfolding blank said_bytes name_read name_asked
+returns-in_err-size c =
+    rw (
+      c.from_residual.ensures,
       ← c.words_from.ensures,
-      ← c.read_bytes-b.ensures,
-      c.if-b.true,
-      ← c.front.ensures,
-    ) (c.named.ensures rest)
+      ← c.in_err-size.ensures,
+    )
 
 pub returns : goal.returns
-unfolding not_known blank said_bytes name_asked
+unfolding blank said_bytes name_read name_asked
 returns c =
-    λ rest. record {
-      means =
-          rw (
-            ← c.word-what.ensures,
-            ← c.words_from.ensures,
-            ← c.read_bytes-b.ensures,
-            c.if-b.false,
-            c.unknown.ensures,
-          );
-    }
+    rw (
+      ← c.words_from.ensures,
+      ← c.in_ok-size.ensures,
+      ← c.front.ensures,
+      ← c.word.ensures,
+    ) c.named.ensures

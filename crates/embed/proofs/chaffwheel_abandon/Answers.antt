@@ -6,9 +6,9 @@ use Rattle.embed.proofs.chaffwheel_abandon.Goals as goal
 pub returns-then-why-eq0 : goal.returns-then-why-eq0
 returns-then-why-eq0 c =
     run_through _ _ _ _ _ _ c.slices_refusal-why.ensures c.if-why-eq0.true _ c.vm_of-m.ensures _ _
-    c.abandon-result.ensures _ c.tell_run-n.ensures
+    c.abandon-result.ensures _ c.tell_run.ensures
 
 pub returns : goal.returns
 returns c =
     run_refused _ _ _ _ _ _ c.slices_refusal-why.ensures c.if-why-eq0.false _ c.vm_of-m.ensures _
-    (abandon_says _ _ _ c.order-good.result (c.order-good.ensures c.args.trace.now)) _ c.crossed_idle-n.ensures
+    (abandon_says _ _ _ c.order-good.result (c.order-good.ensures c.args.trace.now)) _ c.crossed_idle.ensures

@@ -6,7 +6,7 @@ use Rattle.embed.proofs.chaffwheel_new.Goals as goal
 pub returns-then-why-eq0 : goal.returns-then-why-eq0
 returns-then-why-eq0 c =
     λ rest. start_through_lem _ _ _ _ _ _ c.out_refusal-why.ensures c.if-why-eq0.true _ _ _ (c.new-made.ensures rest) _
-    c.tell_started-n.ensures
+    c.tell_started.ensures
 
 pub returns : goal.returns
 returns c =

@@ -14,7 +14,7 @@ returns-then-good c =
     (program_lent c.args.structs.now c.args.constants.now c.args.functions.now c.args.text.now
     c.args.main.now c.args.main_places.now c.args.other.now c.args.other_places.now)
     (run_lent c.args.stack.now c.args.cells.now c.args.frames.now c.args.copy.now trace)) _ _ c.record_ok-good.ensures
-    c.if-good.true _ c.vm_of-m.ensures _ (c.set_strict-changed.ensures trace) _ (c.tell_changed-n.ensures [])
+    c.if-good.true _ c.vm_of-m.ensures _ (c.set_strict-changed.ensures trace) _ (c.tell_changed.ensures [])
 
 pub returns : goal.returns
 returns c =

@@ -6,9 +6,9 @@ use Rattle.embed_code.proofs.add_op2.Goals as goal
 pub returns-then-why-eq0 : goal.returns-then-why-eq0
 returns-then-why-eq0 c =
     λ rest. emit_through_lem _ _ _ c.slices_refusal-why.ensures _ _ c.if-why-eq0.true c.vm_of-m.ensures
-    (c.add_op2-done.ensures rest).means c.tell_emitted-n.ensures
+    (c.add_op2-done.ensures rest).means c.tell_emitted.ensures
 
 pub returns : goal.returns
 returns c =
     λ rest. emit_refused _ _ _ c.slices_refusal-why.ensures _ _ c.if-why-eq0.false c.vm_of-m.ensures _
-    (add_op2_says _ _ _ _ (c.code_order-good.ensures rest) _ _ _ _) c.crossed_running-n.ensures
+    (add_op2_says _ _ _ _ (c.code_order-good.ensures rest) _ _ _ _) c.crossed_running.ensures

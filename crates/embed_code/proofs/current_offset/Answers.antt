@@ -9,4 +9,4 @@ pub returns : goal.returns
 returns c =
     is_through _ _ _ _ c.slices_refusal-why.ensures c.vm_of-m.ensures
     (λ (x : Vm). current_offset_of x.program c.args.functions.now) told_coded
-    c.current_offset-told.ensures (c.answer_told-n.ensures _)
+    c.current_offset-told.ensures (c.answer_told.ensures _)

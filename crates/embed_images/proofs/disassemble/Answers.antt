@@ -12,4 +12,4 @@ pub returns : goal.returns
 returns c =
     λ rest. list_through _ _ _ c.vm_of-m.ensures _ c.slices_refusal-why.ensures
     c.lent_room-room.ensures _ (c.disassemble-told.ensures rest)
-    (c.answer_listed-n.ensures _)
+    (c.answer_listed.ensures _)

@@ -11,4 +11,4 @@ slice_bounds-save-end-2 c = room_taken c.slices_refusal-why.result _ c.lent_room
 pub returns : goal.returns
 returns c =
     save_through _ _ _ c.vm_of-m.ensures _ c.slices_refusal-why.ensures c.lent_room-room.ensures
-    _ c.save-told.ensures (c.answer_told-n.ensures _)
+    _ c.save-told.ensures (c.answer_told.ensures _)

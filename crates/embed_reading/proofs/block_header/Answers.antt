@@ -15,4 +15,4 @@ returns c =
     headed_coded
     (c.block_header-headed.ensures ∙ ap
     (λ (v : Value). block_header_of c.vm_of-m.result v c.args.cells.now) c.value_of-v.ensures)
-    (c.answer_header-n.ensures _)
+    (c.answer_told.ensures _)

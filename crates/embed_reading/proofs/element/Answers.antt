@@ -15,4 +15,4 @@ returns c =
     c.args.cells.now) shown_coded
     (c.element-shown.ensures ∙ ap
     (λ (v : Value). element_of c.vm_of-m.result v c.args.i c.args.cells.now)
-    c.value_of-v.ensures) (c.answer_shown-n.ensures _)
+    c.value_of-v.ensures) (c.answer_told.ensures _)

@@ -7,4 +7,4 @@ use Rattle.embed_reading.proofs.last_result.Goals as goal
 pub returns : goal.returns
 returns c =
     is_through _ _ _ _ c.slices_refusal-why.ensures c.vm_of-m.ensures last_result_of shown_coded
-    c.last_result-shown.ensures (c.answer_shown-n.ensures _)
+    c.last_result-shown.ensures (c.answer_told.ensures _)

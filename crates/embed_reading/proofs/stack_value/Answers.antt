@@ -9,4 +9,4 @@ pub returns : goal.returns
 returns c =
     is_through _ _ _ _ c.slices_refusal-why.ensures c.vm_of-m.ensures
     (λ (x : Vm). stack_value_of x c.args.i c.args.stack.now) shown_coded
-    c.stack_value-shown.ensures (c.answer_shown-n.ensures _)
+    c.stack_value-shown.ensures (c.answer_told.ensures _)

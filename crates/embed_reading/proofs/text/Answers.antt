@@ -12,4 +12,4 @@ pub returns : goal.returns
 returns c =
     text_through _ _ _ c.vm_of-m.ensures _ c.value_refusal-why.ensures c.lent_room-room.ensures
     _ c.value_of-v.ensures _ c.text_bytes-told.ensures
-    (c.answer_told-n.ensures _)
+    (c.answer_told.ensures _)

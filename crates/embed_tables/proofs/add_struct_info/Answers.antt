@@ -6,9 +6,9 @@ use Rattle.embed_tables.proofs.add_struct_info.Goals as goal
 pub returns-then-why-eq0 : goal.returns-then-why-eq0
 returns-then-why-eq0 c =
     λ rest. emit_through_lem _ _ _ c.slices_refusal-why.ensures _ _ c.if-why-eq0.true c.vm_of-m.ensures
-    (c.add_struct_info-done.ensures rest).means c.tell_emitted-n.ensures
+    (c.add_struct_info-done.ensures rest).means c.tell_emitted.ensures
 
 pub returns : goal.returns
 returns c =
     λ rest. emit_refused _ _ _ c.slices_refusal-why.ensures _ _ c.if-why-eq0.false c.vm_of-m.ensures _
-    (struct_says _ _ _ _ (c.struct_order-good.ensures rest) _) c.crossed_running-n.ensures
+    (struct_says _ _ _ _ (c.struct_order-good.ensures rest) _) c.crossed_running.ensures

@@ -11,4 +11,4 @@ returns c =
     λ rest. is_through _ _ _ _ c.slices_refusal-why.ensures c.vm_of-m.ensures
     (λ (x : Vm). function_idx_of x.program c.args.name.now
     (names_lent rest c.args.functions.now c.args.text.now)) told_coded
-    (c.get_function_idx-told.ensures rest) (c.answer_told-n.ensures _)
+    (c.get_function_idx-told.ensures rest) (c.answer_told.ensures _)

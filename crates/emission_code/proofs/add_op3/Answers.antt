@@ -1,7 +1,14 @@
 -- `emission_code::add_op3` meets its contract.
+use Rattle.std.proofs.Common.{rules}
 use Rattle.model.specs.Emission.{add_op3_of, u16}
+use Rattle.emission_code.proofs.Operands.{two_bytes}
 use Rattle.emission_code.proofs.add_op3.Goals as goal
 
 pub returns : goal.returns
 unfolding add_op3_of u16
-returns c = c.emit.ensures
+returns c =
+    rw (
+      two_bytes _ _ (search rules) c.to_le_bytes.ensures,
+      two_bytes _ _ (search rules) c.to_le_bytes-2.ensures,
+      two_bytes _ _ (search rules) c.to_le_bytes-3.ensures,
+    ) at c.emit.ensures

@@ -43,7 +43,7 @@ pub returns-in-Boolean : goal.returns-in-Boolean
 unfolding constants_lent
 returns-in-Boolean c =
     λ rest. boolean_in _ _ _ _ _ _ (c.constant_order-ok.ensures rest) (search rules) c.if-running.false
-    c.if-n-ge-CONSTANT_LIMIT.false _ (c.room.ensures _ refl) c.if-room-n.false _ _ _ _ c.in-Boolean.is refl
+    c.if-n-ge-CONSTANT_LIMIT.false _ (c.room.ensures _ refl) c.if-room-n.false _ _ _ _ c.in-Boolean.is c.from.ensures
     (c.plain-in-Boolean.ensures rest _)
 
 pub returns-in-String : goal.returns-in-String

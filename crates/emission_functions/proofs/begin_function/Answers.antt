@@ -22,20 +22,20 @@ returns-then-room-n c =
     λ rest. begin_21 _ _ _ _ _ (c.function_order-ok.ensures rest) (search rules) c.if-running.false
     c.if-n-ge-NAME_LIMIT.false _ (c.room.ensures _ refl) c.if-room-n.true
 
-pub overflow_add-end : goal.overflow_add-end
-overflow_add-end c = let h = lent_fits _ _ _ _ c.text_room.ensures c.if-text_room.true in omega arith
+pub overflow_add-result-2 : goal.overflow_add-result-2
+overflow_add-result-2 c = let h = lent_fits _ _ _ _ c.text_room.ensures c.if-not-text_room.false in omega arith
 
 pub put_bytes-requires : goal.put_bytes-requires
-put_bytes-requires c = (lent_fits _ _ _ _ c.text_room.ensures c.if-text_room.true).0
+put_bytes-requires c = (lent_fits _ _ _ _ c.text_room.ensures c.if-not-text_room.false).0
 
 pub pack-requires : goal.pack-requires
 pack-requires c =
     let h =
-    lent_fits _ _ _ _ c.text_room.ensures c.if-text_room.true in
+    lent_fits _ _ _ _ c.text_room.ensures c.if-not-text_room.false in
     (omega arith, omega arith)
 
-pub pack-requires-then-text_room : goal.pack-requires-then-text_room
-pack-requires-then-text_room c = (
+pub pack-requires-2 : goal.pack-requires-2
+pack-requires-2 c = (
   behind_fits _ _ _ _ c.function_order-ok.ensures (search rules) _ c.code_start-behind.ensures,
   search rules,
 )
@@ -43,16 +43,16 @@ pack-requires-then-text_room c = (
 pub put_words-requires : goal.put_words-requires
 put_words-requires c = pair_fits _ _ c.args.functions.now (c.room.ensures _ refl) c.if-room-n.false
 
-pub returns-then-text_room : goal.returns-then-text_room
-unfolding names_lent
-returns-then-text_room c =
-    λ rest. begin_done _ _ _ _ _ (c.function_order-ok.ensures rest) (search rules) c.if-running.false
-    c.if-n-ge-NAME_LIMIT.false _ (c.room.ensures _ refl) c.if-room-n.false _ (c.text_room.ensures _ refl) c.if-text_room.true _ _ _ _ _
-    c.code_start-behind.ensures c.put_bytes.ensures c.pack.ensures c.pack-then-text_room.ensures
-    c.put_words.ensures
-
 pub returns : goal.returns
 unfolding names_lent
 returns c =
+    λ rest. begin_done _ _ _ _ _ (c.function_order-ok.ensures rest) (search rules) c.if-running.false
+    c.if-n-ge-NAME_LIMIT.false _ (c.room.ensures _ refl) c.if-room-n.false _ (c.text_room.ensures _ refl) c.if-not-text_room.false _ _ _ _ _
+    c.code_start-behind.ensures c.put_bytes.ensures c.pack.ensures c.pack-2.ensures
+    c.put_words.ensures
+
+pub returns-then-not-text_room : goal.returns-then-not-text_room
+unfolding names_lent
+returns-then-not-text_room c =
     λ rest. begin_text_21 _ _ _ _ _ (c.function_order-ok.ensures rest) (search rules) c.if-running.false
-    c.if-n-ge-NAME_LIMIT.false _ (c.room.ensures _ refl) c.if-room-n.false _ (c.text_room.ensures _ refl) c.if-text_room.false
+    c.if-n-ge-NAME_LIMIT.false _ (c.room.ensures _ refl) c.if-room-n.false _ (c.text_room.ensures _ refl) c.if-not-text_room.true

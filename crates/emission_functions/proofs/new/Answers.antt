@@ -8,20 +8,20 @@ pub put_bytes-requires : goal.put_bytes-requires
 put_bytes-requires c =
     let h =
     new_fits c.args.functions.now c.args.text.now _ _ (c.room.ensures _ refl)
-    (c.room-2.ensures _ refl) c.if-room.true in
+    (c.room-2.ensures _ refl) c.if-not-fits.false in
     omega arith
 
 pub put_words-requires : goal.put_words-requires
 put_words-requires c =
     let h =
     new_fits c.args.functions.now c.args.text.now _ _ (c.room.ensures _ refl)
-    (c.room-2.ensures _ refl) c.if-room.true in
+    (c.room-2.ensures _ refl) c.if-not-fits.false in
     omega arith
 
-pub returns-then-room : goal.returns-then-room
-returns-then-room c =
-    λ rest. new_done _ _ _ _ (c.room.ensures _ refl) (c.room-2.ensures _ refl) rest c.if-room.true _ _ _
+pub returns : goal.returns
+returns c =
+    λ rest. new_done _ _ _ _ (c.room.ensures _ refl) (c.room-2.ensures _ refl) rest c.if-not-fits.false _ _ _
     c.put_bytes.ensures c.pack.ensures c.put_words.ensures
 
-pub returns : goal.returns
-returns c = λ rest. new_refused _ _ _ _ (c.room.ensures _ refl) (c.room-2.ensures _ refl) rest c.if-room.false
+pub returns-then-not-fits : goal.returns-then-not-fits
+returns-then-not-fits c = λ rest. new_refused _ _ _ _ (c.room.ensures _ refl) (c.room-2.ensures _ refl) rest c.if-not-fits.true

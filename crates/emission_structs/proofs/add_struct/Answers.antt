@@ -13,30 +13,30 @@ pub returns-then-room-n : goal.returns-then-room-n
 unfolding structs_lent
 returns-then-room-n c = λ rest. struct_21 _ _ _ c.if-n-ge-NAME_LIMIT.false _ (c.room.ensures _ refl) c.if-room-n.true
 
-pub overflow_add-end : goal.overflow_add-end
-overflow_add-end c = let h = lent_fits _ _ _ _ c.text_room.ensures c.if-text_room.true in omega arith
+pub overflow_add-result-2 : goal.overflow_add-result-2
+overflow_add-result-2 c = let h = lent_fits _ _ _ _ c.text_room.ensures c.if-not-text_room.false in omega arith
 
 pub put_bytes-requires : goal.put_bytes-requires
-put_bytes-requires c = (lent_fits _ _ _ _ c.text_room.ensures c.if-text_room.true).0
+put_bytes-requires c = (lent_fits _ _ _ _ c.text_room.ensures c.if-not-text_room.false).0
 
-pub pack-word-requires : goal.pack-word-requires
-pack-word-requires c =
+pub pack-requires : goal.pack-requires
+pack-requires c =
     let h =
-    lent_fits _ _ _ _ c.text_room.ensures c.if-text_room.true in
+    lent_fits _ _ _ _ c.text_room.ensures c.if-not-text_room.false in
     (omega arith, omega arith)
 
 pub put_struct-requires : goal.put_struct-requires
 put_struct-requires c = (c.requires.spot.most, pair_fits _ _ c.args.structs.now (c.room.ensures _ refl) c.if-room-n.false)
 
-pub returns-then-text_room : goal.returns-then-text_room
-unfolding structs_lent
-returns-then-text_room c =
-    λ rest. struct_added_lem _ _ _ c.if-n-ge-NAME_LIMIT.false _ (c.room.ensures _ refl) c.if-room-n.false _
-    (c.text_room.ensures _ refl) c.if-text_room.true _ _ _ _ c.requires c.put_bytes.ensures
-    c.pack-word.ensures c.put_struct.ensures
-
 pub returns : goal.returns
 unfolding structs_lent
 returns c =
+    λ rest. struct_added_lem _ _ _ c.if-n-ge-NAME_LIMIT.false _ (c.room.ensures _ refl) c.if-room-n.false _
+    (c.text_room.ensures _ refl) c.if-not-text_room.false _ _ _ _ c.requires c.put_bytes.ensures
+    c.pack.ensures c.put_struct.ensures
+
+pub returns-then-not-text_room : goal.returns-then-not-text_room
+unfolding structs_lent
+returns-then-not-text_room c =
     λ rest. struct_text_21 _ _ _ c.if-n-ge-NAME_LIMIT.false _ (c.room.ensures _ refl) c.if-room-n.false _
-    (c.text_room.ensures _ refl) c.if-text_room.false
+    (c.text_room.ensures _ refl) c.if-not-text_room.true

@@ -15,7 +15,7 @@ unfolding structs_lent
 returns-then-stands c =
     λ rest. struct_known _ _ _ _ _ (c.struct_order-ok.ensures rest) (search rules) c.if-running.false
     (structs_ordered _ _ _ _ c.struct_order-ok.ensures (search rules)) _ c.spot-at.ensures _
-    c.stands.ensures c.if-stands.true _ _ c.second.ensures c.index-known.ensures
+    c.stands.ensures c.if-stands.true _ _ c.second.ensures c.index.ensures
 
 pub add_struct-requires : goal.add_struct-requires
 add_struct-requires c =

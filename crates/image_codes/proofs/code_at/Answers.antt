@@ -10,18 +10,18 @@ returns-in_default c = search (rules, no_head)
 
 pub overflow_add-from : goal.overflow_add-from
 overflow_add-from c =
-    let inside = (head_is _ _ _ _ c.read_head.ensures _ c.in-Is.is).code in
+    let inside = (head_is _ _ _ _ c.read_head.ensures _ c.in-Ok.is).code in
     omega arith
 
 pub check_runs-requires : goal.check_runs-requires
-check_runs-requires c = (head_is _ _ _ _ c.read_head.ensures _ c.in-Is.is).code
+check_runs-requires c = (head_is _ _ _ _ c.read_head.ensures _ c.in-Ok.is).code
 
 pub returns-in_default-check_runs : goal.returns-in_default-check_runs
 returns-in_default-check_runs c =
-    no_runs _ _ _ c.requires _ c.read_head.ensures _ c.in-Is.is _
+    no_runs _ _ _ c.requires _ c.read_head.ensures _ c.in-Ok.is _
     c.check_runs.ensures c.in_default-check_runs.is
 
 pub returns : goal.returns
 returns c =
-    function_found _ _ _ c.requires _ c.read_head.ensures _ c.in-Is.is _
-    c.check_runs.ensures c.in-At.is
+    function_found _ _ _ c.requires _ c.read_head.ensures _ c.in-Ok.is _
+    c.check_runs.ensures c.in-Ok-check_runs.is

@@ -12,7 +12,7 @@ pub returns-in_default : goal.returns-in_default
 returns-in_default c = search (rules, no_name)
 
 pub overflow_add-behind : goal.overflow_add-behind
-overflow_add-behind c = let ends = text_end _ _ _ c.read_text.ensures _ _ c.in-At.is in omega arith
+overflow_add-behind c = let ends = text_end _ _ _ c.read_text.ensures _ _ c.in-Some.is in omega arith
 
 pub returns-then-behind-o : goal.returns-then-behind-o
 returns-then-behind-o c = search (rules, length_here)

@@ -1,5 +1,4 @@
 -- `row_part`: an entry a turn.
-use Prim.Native.Nat.{◌-◌}
 use borrow.Author.Rules.{rules}
 use Rattle.image_items.proofs.Seeking.{none_passed, all_passed, one_stops, one_passed}
 use Rattle.image_items.proofs.row_part.Goals as goal

@@ -1,10 +1,6 @@
 -- `row_part`: an entry a turn.
-use Prim.Native.Nat.{◌-◌}
 use Rattle.image_items.proofs.Seeking.{Passing}
 use Rattle.image_items.proofs.row_part.Given as goal
 
 abbrev pub invariant-loop-k : goal.invariant-loop-k
 invariant-loop-k l = Passing l.w l.image l.o l.n l.at l.k l.next
-
-abbrev pub decreases-loop-k : goal.decreases-loop-k
-decreases-loop-k l = l.n - l.k

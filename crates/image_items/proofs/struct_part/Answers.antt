@@ -12,7 +12,7 @@ pub returns-in_default : goal.returns-in_default
 returns-in_default c = search (rules, no_struct)
 
 pub overflow_add-next : goal.overflow_add-next
-overflow_add-next c = let ends = text_end _ _ _ c.read_text.ensures _ _ c.in-At.is in omega arith
+overflow_add-next c = let ends = text_end _ _ _ c.read_text.ensures _ _ c.in-Some.is in omega arith
 
 pub returns : goal.returns
 returns c = search (rules, struct_over)

@@ -1,10 +1,6 @@
 -- `image_judge::check_structs` meets its contract.
-use Prim.Native.Nat.{◌-◌}
 use Rattle.image_judge.proofs.Passes.{Names}
 use Rattle.image_judge.proofs.check_structs.Given as goal
 
 abbrev pub invariant-loop-i : goal.invariant-loop-i
 invariant-loop-i l = Names l.image l.first l.count l.repeat l.next l.text l.i
-
-abbrev pub decreases-loop-i : goal.decreases-loop-i
-decreases-loop-i l = l.count - l.i

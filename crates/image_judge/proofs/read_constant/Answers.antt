@@ -23,7 +23,7 @@ returns-then-kind-eq1 c = search (rules, constant_read)
 
 pub read_letters-requires : goal.read_letters-requires
 read_letters-requires c = (
-  constant_next _ _ c.requires _ c.read_number.ensures _ _ c.in-Number.is,
+  constant_next _ _ c.requires _ c.read_number.ensures _ _ c.in-Some.is,
   two_left _ c.if-kind-eq0.false c.if-kind-eq1.false c.if-kind-gt3.false,
 )
 

@@ -10,22 +10,22 @@ returns-in_default c = search (rules, head_none)
 
 pub overflow_add-behind : goal.overflow_add-behind
 overflow_add-behind c =
-    let z = text_end _ _ _ c.read_text.ensures _ _ c.in-At.is in
+    let z = text_end _ _ _ c.read_text.ensures _ _ c.in-Some.is in
     omega arith
+
+pub returns-then-not-may_be : goal.returns-then-not-may_be
+returns-then-not-may_be c = search (rules, head_other)
 
 pub returns-in_default-read_number : goal.returns-in_default-read_number
 returns-in_default-read_number c = search (rules, head_no_size)
 
 pub overflow_sub-image : goal.overflow_sub-image
 overflow_sub-image c =
-    head_code _ _ _ _ c.read_text.ensures _ _ c.in-At.is _ c.may_be.ensures
-    c.if-may_be.true _ c.read_number.ensures _ _ _ c.in-Number.is c.wide-size.ensures
+    head_code _ _ _ _ c.read_text.ensures _ _ c.in-Some.is _ c.may_be.ensures
+    c.if-not-may_be.false _ c.read_number.ensures _ _ _ c.in-Some-read_number.is c.wide-size.ensures
 
 pub returns-then-image-code : goal.returns-then-image-code
 returns-then-image-code c = search (rules, head_short)
 
-pub returns-then-may_be : goal.returns-then-may_be
-returns-then-may_be c = search (rules, head_read)
-
 pub returns : goal.returns
-returns c = search (rules, head_other)
+returns c = search (rules, head_read)

@@ -8,7 +8,7 @@ pub returns-in_default : goal.returns-in_default
 returns-in_default c = search (rules, letters_none)
 
 pub overflow_add-result : goal.overflow_add-result
-overflow_add-result c = let z = text_end _ _ _ c.read_text.ensures _ _ c.in-At.is in omega arith
+overflow_add-result c = let z = text_end _ _ _ c.read_text.ensures _ _ c.in-Some.is in omega arith
 
 pub returns : goal.returns
 returns c = search (rules, letters_read)

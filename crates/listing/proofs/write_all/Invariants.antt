@@ -1,10 +1,6 @@
 -- `write_all`: a function a turn.
-use Prim.Native.Nat.{◌-◌}
 use Rattle.listing.proofs.Functions.{Passed}
 use Rattle.listing.proofs.write_all.Given as goal
 
 abbrev pub invariant-loop-i : goal.invariant-loop-i
-invariant-loop-i l = Passed l.functions l.text l.main l.other l.n l.initial.out l.out l.i l.next
-
-abbrev pub decreases-loop-i : goal.decreases-loop-i
-decreases-loop-i l = l.n - l.i
+invariant-loop-i l = Passed l.functions l.text l.main l.other l.i-end l.initial.out l.out l.i l.next

@@ -1,15 +1,17 @@
 -- `machine::continue_run` meets its contract.
+use Rattle.layout.specs.Lent.{stores_in}
 use Rattle.std.proofs.Common.{refl}
+use Rattle.std.proofs.lemmas.Result.{err_from_is_err_and}
 use Rattle.model.specs.Machines.{continues}
-use Rattle.run_ends.specs.Links.{program_lent}
 use Rattle.machine.specs.Links.{run_lent}
 use Rattle.machine.proofs.Granted.{refused_with, granted_by}
 use Rattle.machine.proofs.continue_run.Goals as goal
 
-pub go-answer-requires : goal.go-answer-requires
-go-answer-requires c =
-    (granted_by c.args.m (program_lent c.args.structs.now c.args.constants.now c.args.functions.now c.args.text.now c.args.main.now c.args.main_places.now c.args.other.now c.args.other_places.now) (run_lent c.args.stack.now c.args.cells.now c.args.frames.now c.args.copy.now c.args.backtrace.now) (continues c.args.units) (c.continue_refusal-why.ensures (program_lent c.args.structs.now c.args.constants.now c.args.functions.now c.args.text.now c.args.main.now c.args.main_places.now c.args.other.now c.args.other_places.now) (run_lent c.args.stack.now c.args.cells.now c.args.frames.now c.args.copy.now c.args.backtrace.now) (c.order-good.ensures c.args.backtrace.now) (unfold run_lent in refl) (unfold run_lent in refl)) c.if-why-eq0.true)
+pub returns-in_err-may_continue : goal.returns-in_err-may_continue
+returns-in_err-may_continue c =
+    let p = err_from_is_err_and c.from_residual.result c.from_residual.ensures.1 in
+    rw (p.1, p.2) (refused_with c.args.m (stores_in c.args.stores.now) (run_lent c.args.stack.now c.args.cells.now c.args.frames.now c.args.copy.now c.args.backtrace.now) (continues c.args.units) (c.in_err-may_continue.ensures (stores_in c.args.stores.now) (run_lent c.args.stack.now c.args.cells.now c.args.frames.now c.args.copy.now c.args.backtrace.now) (c.order-good.ensures c.args.backtrace.now) (unfold run_lent in refl) (unfold run_lent in refl)))
 
-pub returns : goal.returns
-returns c =
-    rw c.not_run-answer.ensures (refused_with c.args.m (program_lent c.args.structs.now c.args.constants.now c.args.functions.now c.args.text.now c.args.main.now c.args.main_places.now c.args.other.now c.args.other_places.now) (run_lent c.args.stack.now c.args.cells.now c.args.frames.now c.args.copy.now c.args.backtrace.now) (continues c.args.units) (c.continue_refusal-why.ensures (program_lent c.args.structs.now c.args.constants.now c.args.functions.now c.args.text.now c.args.main.now c.args.main_places.now c.args.other.now c.args.other_places.now) (run_lent c.args.stack.now c.args.cells.now c.args.frames.now c.args.copy.now c.args.backtrace.now) (c.order-good.ensures c.args.backtrace.now) (unfold run_lent in refl) (unfold run_lent in refl)) c.if-why-eq0.false)
+pub go-requires : goal.go-requires
+go-requires c =
+    granted_by c.args.m (stores_in c.args.stores.now) (run_lent c.args.stack.now c.args.cells.now c.args.frames.now c.args.copy.now c.args.backtrace.now) (continues c.args.units) (c.in_ok-may_continue.ensures (stores_in c.args.stores.now) (run_lent c.args.stack.now c.args.cells.now c.args.frames.now c.args.copy.now c.args.backtrace.now) (c.order-good.ensures c.args.backtrace.now) (unfold run_lent in refl) (unfold run_lent in refl))

@@ -5,4 +5,4 @@ use Rattle.machine.proofs.set_strict.Goals as goal
 
 pub returns : goal.returns
 unfolding set_strict set_by
-returns c = λ backtrace. rw (← c.order-good.ensures backtrace) c.set_to-set.ensures
+returns c = λ backtrace. rw (← c.order-good.ensures backtrace) c.set_to.ensures

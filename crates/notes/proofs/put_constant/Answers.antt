@@ -4,22 +4,22 @@ use Rattle.notes.proofs.Shown.{scalar_is, false_is, true_is, string_is, referenc
 use borrow.Author.Rules.{rules}
 use Rattle.notes.proofs.put_constant.Goals as goal
 
-pub returns-then-kind-eq0 : goal.returns-then-kind-eq0
+pub returns-in-0 : goal.returns-in-0
 unfolding ascii
-returns-then-kind-eq0 c = search (rules, scalar_is)
+returns-in-0 c = search (rules, scalar_is)
 
-pub returns-then-payload-eq0 : goal.returns-then-payload-eq0
+pub returns-in-1 : goal.returns-in-1
 unfolding ascii
-returns-then-payload-eq0 c = search (rules, false_is)
+returns-in-1 c = search (rules, false_is)
 
-pub returns-then-kind-eq1 : goal.returns-then-kind-eq1
+pub returns-in-1-2 : goal.returns-in-1-2
 unfolding ascii
-returns-then-kind-eq1 c = search (rules, true_is)
+returns-in-1-2 c = search (rules, true_is)
 
-pub returns-then-kind-eq2 : goal.returns-then-kind-eq2
+pub returns-in-2 : goal.returns-in-2
 unfolding ascii
-returns-then-kind-eq2 c = search (rules, string_is)
+returns-in-2 c = search (rules, string_is)
 
-pub returns : goal.returns
+pub returns-in_default : goal.returns-in_default
 unfolding ascii
-returns c = search (rules, reference_is)
+returns-in_default c = search (rules, reference_is)

@@ -1,25 +1,18 @@
 -- `put_shown`: a byte a turn, and two dots where there are more.
-use borrow.Author.Rules.{rules}
 use Rattle.model.specs.Basics.{ascii}
-use Rattle.printing.proofs.Puts.{kept}
-use Rattle.notes.proofs.Shown.{none_shown, one_shown, same_room, whole_text, cut_text}
+use Rattle.printing.proofs.Puts.{at_first}
+use Rattle.notes.proofs.Shown.{one_shown, whole_text, cut_text}
 use Rattle.notes.proofs.put_shown.Goals as goal
 
-pub loop-i-init : goal.loop-i-init
-loop-i-init c = search (rules, none_shown)
+pub loop-b-init : goal.loop-b-init
+loop-b-init c = at_first _ _ _
 
-pub loop-i-preserved : goal.loop-i-preserved
-loop-i-preserved c = search (rules, one_shown)
-
-pub shape_of-out-then-n-text : goal.shape_of-out-then-n-text
-shape_of-out-then-n-text c = search (rules, same_room)
+pub loop-b-preserved : goal.loop-b-preserved
+loop-b-preserved c = one_shown _ _ c.loop-b.invariant c.loop-b-test.true c.shown_byte.ensures c.put_byte-next.ensures
 
 pub returns-then-n-text : goal.returns-then-n-text
 unfolding ascii
-returns-then-n-text c = search (rules, cut_text)
-
-pub shape_of-out : goal.shape_of-out
-shape_of-out c = search (rules, kept)
+returns-then-n-text c = cut_text _ _ c.loop-b.invariant c.min-n.ensures c.loop-b-test.false c.if-n-text.true c.put_text.ensures
 
 pub returns : goal.returns
-returns c = search (rules, whole_text)
+returns c = whole_text _ _ c.loop-b.invariant c.min-n.ensures c.loop-b-test.false c.if-n-text.false

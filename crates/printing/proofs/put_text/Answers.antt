@@ -1,16 +1,14 @@
 -- `put_text`: a byte a turn.
 use mathlib.Core.Path.{refl}
-use Rattle.printing.proofs.Puts.{at_first, another, whole, kept}
+use borrow.Author.Rules.{rules}
+use Rattle.printing.proofs.Puts.{at_first, another, whole}
 use Rattle.printing.proofs.put_text.Goals as goal
 
-pub loop-i-init : goal.loop-i-init
-loop-i-init c = at_first _ _ _
+pub loop-b-init : goal.loop-b-init
+loop-b-init c = at_first _ _ _
 
-pub loop-i-preserved : goal.loop-i-preserved
-loop-i-preserved c = another c.loop-i.invariant _ _ refl c.loop-i-test.true c.put_byte-next.ensures
-
-pub shape_of-out : goal.shape_of-out
-shape_of-out c = kept c.loop-i.invariant.put
+pub loop-b-preserved : goal.loop-b-preserved
+loop-b-preserved c = another c.loop-b.invariant _ _ refl c.loop-b-test.true c.put_byte-next.ensures
 
 pub returns : goal.returns
-returns c = whole c.loop-i.invariant c.loop-i-test.false
+returns c = search (rules, whole)

@@ -1,6 +1,6 @@
 -- `recheck::agrees`: the facts fit, and are compared.
 use native.Mathlib.Omega.{arith}
-use Rattle.recheck.proofs.Turns.{facts_length, facts_agree}
+use Rattle.recheck.proofs.Parts.{facts_length, facts_agree}
 use Rattle.recheck.proofs.agrees.Goals as goal
 
 pub slice_bounds-same_bytes-end : goal.slice_bounds-same_bytes-end

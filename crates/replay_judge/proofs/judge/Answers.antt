@@ -5,4 +5,4 @@ use Rattle.replay_judge.proofs.judge.Goals as goal
 pub returns : goal.returns
 returns c =
     judged _ _ _ _ c.compare-kept.ensures
-    c.runs-ran.ensures c.lists-listed.ensures
+    c.runs.ensures c.lists.ensures

@@ -9,5 +9,5 @@ pub returns : goal.returns
 returns c =
     told 32768 _ _ (omega arith)
     (runner_fits _
-    (bytes_of _ (λ i. omega (arith, c.shared_slice_known-1.given i))))
+    (bytes_of _ (λ i. omega (arith, c.type_inv.image i))))
     c.run_image-n.ensures _ c.same_front.ensures

@@ -1,16 +1,15 @@
 -- `list_program`: what the listing answers.
-use Rattle.report_listed.proofs.Listed.{was_listed, did_not_fit, not_listed}
+use borrow.Author.Rules.{rules}
+use Rattle.report_listed.proofs.Listed.{was_listed, did_not_fit, not_listed, other_refusal}
 use Rattle.report_listed.proofs.list_program.Goals as goal
 
-pub returns-then-n-eq17 : goal.returns-then-n-eq17
-returns-then-n-eq17 c =
-    λ rest. did_not_fit _ _ (c.requires rest) _ (c.disassemble-told.ensures rest)
-    c.in-Refused.is c.if-n-eq17.true
+pub returns-in-Ok : goal.returns-in-Ok
+returns-in-Ok c = λ rest. was_listed _ _ (c.requires rest) _ (c.disassemble.ensures rest) c.in-Ok.is
 
-pub returns-in-Number : goal.returns-in-Number
-returns-in-Number c = λ rest. was_listed _ _ (c.requires rest) _ (c.disassemble-told.ensures rest) c.in-Number.is
+pub returns-in-Err-ResultTooShort : goal.returns-in-Err-ResultTooShort
+returns-in-Err-ResultTooShort c =
+    λ rest. did_not_fit _ _ (c.requires rest) _ (c.disassemble.ensures rest) c.in-Err-ResultTooShort.is c.in-Err-ResultTooShort.field-0-is
 
-pub returns-else-n-eq17 : goal.returns-else-n-eq17
-returns-else-n-eq17 c =
-    λ rest. not_listed _ _ (c.requires rest) _ (c.disassemble-told.ensures rest) c.in-Refused.is
-    c.if-n-eq17.false c.print_refused.ensures
+pub returns-in-Err : goal.returns-in-Err
+returns-in-Err c =
+    λ rest. not_listed _ _ (c.requires rest) _ (c.disassemble.ensures rest) c.in-Err.is (other_refusal (search rules)) c.print_refused.ensures

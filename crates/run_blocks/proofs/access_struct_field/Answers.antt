@@ -11,7 +11,7 @@ returns-in_default c = search (rules, field_none)
 
 pub returns-in_default-v : goal.returns-in_default-v
 returns-in_default-v c =
-    field_wrong c.requires.1 c.pop.ensures c.args.a c.in-Got.is (λ j d. no_struct c.in-Got.v (search rules) j d)
+    field_wrong c.requires.1 c.pop.ensures c.args.a c.in-Ok.is (λ j d. no_struct c.in-Ok.v (search rules) j d)
 
 pub field-requires : goal.field-requires
 field-requires c = search (rules, field_pre)
@@ -23,13 +23,13 @@ pub write_value-requires : goal.write_value-requires
 write_value-requires c =
     omega (
       arith,
-      got_some _ _ c.pop.ensures c.in-Got.is,
+      got_some _ _ c.pop.ensures c.in-Ok.is,
       c.requires.1.stack.count,
       c.requires.1.stack.room,
     )
 
-pub returns-in-Bad : goal.returns-in-Bad
-returns-in-Bad c = search (rules, field_bad)
+pub returns-in-Err : goal.returns-in-Err
+returns-in-Err c = search (rules, field_bad)
 
-pub returns-in-Got-field : goal.returns-in-Got-field
-returns-in-Got-field c = search (rules, field_got)
+pub returns-in-Ok-field : goal.returns-in-Ok-field
+returns-in-Ok-field c = search (rules, field_got)

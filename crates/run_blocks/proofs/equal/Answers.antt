@@ -17,19 +17,19 @@ returns-in_default-pop c = search (rules, equal_one)
 pub equal-requires : goal.equal-requires
 equal-requires c = search (rules, equal_pre)
 
-pub overflow_sub-count-in-Done : goal.overflow_sub-count-in-Done
-overflow_sub-count-in-Done c = search (got_some, rules)
+pub overflow_sub-count-2 : goal.overflow_sub-count-2
+overflow_sub-count-2 c = search (got_some, rules)
 
 pub write_value-requires : goal.write_value-requires
-write_value-requires c = omega (arith, got_some _ _ c.pop-2.ensures c.in-Got-pop.is, c.requires.stack.count, c.requires.stack.room)
+write_value-requires c = omega (arith, got_some _ _ c.pop-2.ensures c.in-Ok-pop.is, c.requires.stack.count, c.requires.stack.room)
 
 pub overflow_sub-spent : goal.overflow_sub-spent
-overflow_sub-spent c = omega (arith, left_of_lem _ _ c.equal.ensures c.in-Done.is)
+overflow_sub-spent c = omega (arith, left_of_lem _ _ c.equal.ensures c.in-Some.is)
 
-pub returns-in-Out : goal.returns-in-Out
-returns-in-Out c = search (rules, equal_out)
+pub returns-in_default-equal : goal.returns-in_default-equal
+returns-in_default-equal c = search (rules, equal_out)
 
-pub returns-in-Done : goal.returns-in-Done
-returns-in-Done c =
-    λ u h. equal_done _ c.requires c.pop.ensures c.in-Got.is c.pop-2.ensures c.in-Got-pop.is
-    c.equal.ensures _ u h c.in-Done.is c.told-v.ensures c.write_value.ensures
+pub returns : goal.returns
+returns c =
+    λ u h. equal_done _ c.requires c.pop.ensures c.in-Ok.is c.pop-2.ensures c.in-Ok-pop.is
+    c.equal.ensures _ u h c.in-Some.is c.told-v.ensures c.write_value.ensures

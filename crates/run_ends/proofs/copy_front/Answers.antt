@@ -1,18 +1,6 @@
 -- `run_ends::copy_front` meets its contract.
-use borrow.Author.Rules.{rules}
-use Prim.Native.Nat.{◌-◌}
-use Rattle.layout.proofs.Writing.{nothing_yet}
-use Rattle.run_ends.proofs.Starting.{copies, copied}
+use Rattle.run_ends.proofs.Starting.{front_copied}
 use Rattle.run_ends.proofs.copy_front.Goals as goal
 
-pub loop-i-init : goal.loop-i-init
-loop-i-init c = nothing_yet _ _ _
-
-pub loop-i-preserved : goal.loop-i-preserved
-loop-i-preserved c = search (rules, copies)
-
-pub shape_of-to : goal.shape_of-to
-shape_of-to c = c.loop-i.invariant.same
-
 pub returns : goal.returns
-returns c = search (rules, copied)
+returns c = front_copied _ _ _ c.requires.0 c.requires.1 c.copy_from_slice.ensures.after

@@ -9,5 +9,5 @@ returns-then-not-within_limits c = search (rules, over_limits)
 pub flaw_alone-requires : goal.flaw_alone-requires
 flaw_alone-requires c = search (rules, flaw_ready)
 
-pub returns-in-Broken : goal.returns-in-Broken
-returns-in-Broken c = search (rules, no_image)
+pub returns-in_default : goal.returns-in_default
+returns-in_default c = search (rules, no_image)

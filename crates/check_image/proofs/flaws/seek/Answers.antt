@@ -1,14 +1,10 @@
 -- `seek`: a function a turn.
-use mathlib.Core.Path.{◌∙◌}
 use borrow.Author.Rules.{rules}
-use Rattle.check_image.proofs.Seeking.{seek_starts, seek_inside, entry_inside, flaw_asked, flaw_there, seek_on, not_there}
+use Rattle.check_image.proofs.Seeking.{seek_starts, entry_inside, flaw_asked, flaw_there, seek_on, not_there}
 use Rattle.check_image.proofs.flaws.seek.Goals as goal
 
 pub loop-g-init : goal.loop-g-init
 loop-g-init c = seek_starts _ _ _ _
-
-pub code_at-c-requires : goal.code_at-c-requires
-code_at-c-requires c = search (rules, seek_inside)
 
 pub offset_bounds-counts-g : goal.offset_bounds-counts-g
 offset_bounds-counts-g c =
@@ -29,9 +25,6 @@ flaw_of-requires c =
     flaw_asked c.loop-g.invariant c.loop-g-test.true c.code_at-c.ensures c.requires.0 c.requires.1
     c.requires.3
 
-pub shape_of-table-then-g-f : goal.shape_of-table-then-g-f
-shape_of-table-then-g-f c = c.flaw_of.auto.table ∙ c.loop-g.invariant.same
-
 pub returns-then-g-f : goal.returns-then-g-f
 returns-then-g-f c =
     flaw_there c.loop-g.invariant c.loop-g-test.true c.code_at-c.ensures c.requires.0 c.requires.1
@@ -39,9 +32,6 @@ returns-then-g-f c =
 
 pub loop-g-preserved : goal.loop-g-preserved
 loop-g-preserved c = seek_on c.loop-g.invariant c.loop-g-test.true c.code_at-c.ensures c.if-g-f.false
-
-pub shape_of-table : goal.shape_of-table
-shape_of-table c = c.loop-g.invariant.same
 
 pub returns : goal.returns
 returns c = search (rules, not_there)

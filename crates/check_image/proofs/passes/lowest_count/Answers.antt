@@ -1,16 +1,11 @@
--- `lowest_count`: an entry a turn.
-use borrow.Author.Rules.{rules}
-use Rattle.check_image.proofs.Counting.{none_differs_yet, one_differs, one_is_same, all_are_same}
+-- `lowest_count`: the place of the first entry that is 1.
+use Rattle.std.proofs.Common.{rules, tests}
+use Rattle.std.proofs.lemmas.Iterator.{YieldsList-from_slice}
+use Rattle.std.proofs.lemmas.Iterator.Search.{position_from_yields_List}
+use Rattle.check_image.proofs.Counting.{lowest_found}
 use Rattle.check_image.proofs.passes.lowest_count.Goals as goal
 
-pub loop-f-init : goal.loop-f-init
-loop-f-init c = none_differs_yet _ _
-
-pub returns-then-counts-f-eq1 : goal.returns-then-counts-f-eq1
-returns-then-counts-f-eq1 c = search (rules, one_differs)
-
-pub loop-f-preserved : goal.loop-f-preserved
-loop-f-preserved c = search (rules, one_is_same)
-
 pub returns : goal.returns
-returns c = search (rules, all_are_same)
+returns c = lowest_found _ _ c.requires c.position.result _
+    (position_from_yields_List _ _ _ _ c.position.ensures.ran (YieldsList-from_slice _ c.iter.ensures.rest) (λ x b q k. search (rules, tests)))
+    c.unwrap_or.ensures

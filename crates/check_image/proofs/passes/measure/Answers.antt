@@ -1,14 +1,10 @@
 -- `measure`: a function a turn.
-use mathlib.Core.Path.{◌∙◌}
 use borrow.Author.Rules.{rules}
-use Rattle.check_image.proofs.Measures.{none_measured, place_inside, entry_inside, heights_may_be_asked, one_is_uneven, one_is_even, all_even}
+use Rattle.check_image.proofs.Measures.{none_measured, entry_inside, heights_may_be_asked, one_is_uneven, one_is_even}
 use Rattle.check_image.proofs.passes.measure.Goals as goal
 
 pub loop-f-init : goal.loop-f-init
 loop-f-init c = none_measured _ _ _ _
-
-pub code_at-c-requires : goal.code_at-c-requires
-code_at-c-requires c = place_inside c.loop-f.invariant c.requires.0
 
 pub offset_bounds-counts-f : goal.offset_bounds-counts-f
 offset_bounds-counts-f c =
@@ -26,9 +22,6 @@ pub heights-requires : goal.heights-requires
 heights-requires c =
     heights_may_be_asked c.loop-f.invariant c.loop-f-test.true c.code_at-c.ensures
     c.taken_with-count.ensures c.requires.0 c.requires.1
-
-pub shape_of-table-in_default : goal.shape_of-table-in_default
-shape_of-table-in_default c = c.heights.auto.table ∙ c.loop-f.invariant.same
 
 pub returns-in_default : goal.returns-in_default
 returns-in_default c =
@@ -51,14 +44,5 @@ pub loop-f-preserved : goal.loop-f-preserved
 loop-f-preserved c =
     let even =
     one_is_even c.loop-f.invariant c.loop-f-test.true c.code_at-c.ensures c.taken_with-count.ensures
-    c.heights.ensures c.in-Greatest.is in
+    c.heights.ensures c.in-Some.is in
     even search
-
-pub shape_of-counts : goal.shape_of-counts
-shape_of-counts c = c.loop-f.invariant.entries
-
-pub shape_of-table : goal.shape_of-table
-shape_of-table c = c.loop-f.invariant.same
-
-pub returns : goal.returns
-returns c = all_even c.loop-f.invariant c.requires.0 c.loop-f-test.false

@@ -1,5 +1,4 @@
 -- `first_called`: a function a turn.
-use Prim.Native.Nat.{◌-◌}
 use borrow.Author.Rules.{rules}
 use Rattle.check_report.proofs.Calling.{none_sought, none_found, one_found, one_passed_over}
 use Rattle.check_report.proofs.calls.first_called.Goals as goal

@@ -4,9 +4,9 @@ use Rattle.model.specs.Basics.{ascii}
 use Rattle.check_report.proofs.Calling.{called_put, called_nowhere}
 use Rattle.check_report.proofs.calls.put_called.Goals as goal
 
-pub returns-in-At : goal.returns-in-At
+pub returns-in-Some : goal.returns-in-Some
 unfolding ascii
-returns-in-At c = search (rules, called_put)
+returns-in-Some c = search (rules, called_put)
 
-pub returns-in-Nowhere : goal.returns-in-Nowhere
-returns-in-Nowhere c = search (rules, called_nowhere)
+pub returns-in-None : goal.returns-in-None
+returns-in-None c = search (rules, called_nowhere)

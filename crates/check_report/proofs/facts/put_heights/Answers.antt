@@ -1,5 +1,4 @@
 -- `put_heights`: a function a turn.
-use Prim.Native.Nat.{◌-◌}
 use borrow.Author.Rules.{rules}
 use Rattle.printing.proofs.Puts.{kept}
 use Rattle.check_report.proofs.Lines.{none_told, one_more, all_told}

@@ -1,10 +1,6 @@
 -- `put_heights`: a function a turn.
-use Prim.Native.Nat.{◌-◌}
 use Rattle.check_report.proofs.Lines.{Told}
 use Rattle.check_report.proofs.facts.put_heights.Given as goal
 
 abbrev pub invariant-loop-f : goal.invariant-loop-f
 invariant-loop-f l = Told l.n l.heights l.initial.out l.at l.out l.f l.next
-
-abbrev pub decreases-loop-f : goal.decreases-loop-f
-decreases-loop-f l = l.n - l.f

@@ -21,4 +21,4 @@ slice_bounds-check-end-4 c = rows_taken c.args.frames _ c.lent_functions-rows.en
 pub returns : goal.returns
 returns c =
     check_crosses _ _ _ _ _ _ _ _ _ c.out_refusal-why.ensures c.if-why-eq25.false c.lent_room-places.ensures
-    c.lent_functions-rows.ensures c.check-checked.ensures c.tell_checked-n.ensures
+    c.lent_functions-rows.ensures c.check-checked.ensures c.tell_checked.ensures

@@ -1,30 +1,34 @@
 -- `frames::order::frames_ok` meets its contract.
-use Rattle.frames.specs.Links.{frames_good}
-use Rattle.frames.proofs.Orders.{begins, in_reach, goes_on_lem, falls, stops, no_caller, next_caller}
+use Rattle.std.proofs.Common.{arith, sym, ◌∙◌, ◌≡◌, ◌≤◌, ◌-◌, length, refl}
+use native.Mathlib.Numerals.{add-one}
+use Rattle.std.specs.Prelude.{min}
+use Rattle.std.proofs.lemmas.Grind.{common_steps}
+use Rattle.model.specs.Values.{most_places}
+use borrow.Author.Tests.{le-leb}
+use Rattle.frames.specs.Links.{frames_good, caller_entered}
+use Rattle.frames.proofs.Orders.{stops_here, goes_on, none_ahead}
 use Rattle.frames.proofs.order.frames_ok.Goals as goal
 
-pub loop-s-init : goal.loop-s-init
+pub returns-then-n-lt1 : goal.returns-then-n-lt1
 unfolding frames_good
-loop-s-init c = record {
-  before = λ more. rw c.begin-s.ensures (no_caller c.args.frames.now c.args.n _);
-  going = rw c.begin-s.ensures (begins _ _ _);
-}
+returns-then-n-lt1 c = grind (arith, common_steps)
 
-pub read_frame-f-requires : goal.read_frame-f-requires
-read_frame-f-requires c = (in_reach _ _ c.loop-s.invariant.going c.loop-s-test.true).1
+pub loop-i-init : goal.loop-i-init
+unfolding frames_good caller_entered
+loop-i-init c =
+    let some : 1 ≤ c.args.n = omega arith in let room : c.args.n ≤ min (length c.args.frames.now) most_places = omega arith in let all : c.args.n - 0 ≡ c.args.n = omega arith in
+    record { before = refl; ahead = rw (le-leb 1 c.args.n some, le-leb c.args.n (min (length c.args.frames.now) most_places) room, all) refl }
 
-pub look-t-requires : goal.look-t-requires
-look-t-requires c = (c.requires, (in_reach _ _ c.loop-s.invariant.going c.loop-s-test.true).0)
+pub returns-then-not-place_ok : goal.returns-then-not-place_ok
+returns-then-not-place_ok c =
+    stops_here _ _ _ c.loop-i.invariant.ahead c.loop-i-test.true (rw c.loop-i.invariant.before at (sym c.place_ok.ensures ∙ c.if-not-place_ok.true))
 
-pub loop-s-smaller : goal.loop-s-smaller
-loop-s-smaller c =
-    rw (c.look-t.ensures, c.loop-s.invariant.before c.loop-s-test.true, c.read_frame-f.ensures) (falls _ _ c.loop-s.invariant.going c.loop-s-test.true)
-
-pub loop-s-preserved : goal.loop-s-preserved
-loop-s-preserved c = record {
-  before = λ more. let e = c.loop-s.invariant.before c.loop-s-test.true in rw c.read_frame-f.ensures (rw (c.look-t.ensures) (next_caller _ _ _ _ (rw c.look-t.ensures at more)));
-  going = rw (c.look-t.ensures, c.loop-s.invariant.before c.loop-s-test.true, c.read_frame-f.ensures) (goes_on_lem _ _ c.loop-s.invariant.going c.loop-s-test.true);
+pub loop-i-preserved : goal.loop-i-preserved
+unfolding caller_entered
+loop-i-preserved c = record {
+  before = rw (add-one c.loop-i.i) refl;
+  ahead = goes_on _ _ _ c.loop-i.invariant.ahead c.loop-i-test.true (rw c.loop-i.invariant.before at (sym c.place_ok.ensures ∙ c.if-not-place_ok.false));
 }
 
 pub returns : goal.returns
-returns c = stops _ _ c.loop-s.invariant.going c.loop-s-test.false
+returns c = none_ahead _ _ _ c.loop-i.invariant.ahead c.loop-i-test.false

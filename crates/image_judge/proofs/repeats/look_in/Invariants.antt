@@ -1,10 +1,6 @@
 -- `image_judge::repeats::look_in` meets its contract.
-use Prim.Native.Nat.{◌-◌}
 use Rattle.image_judge.proofs.Repeating.{Looking}
 use Rattle.image_judge.proofs.repeats.look_in.Given as goal
 
 abbrev pub invariant-loop-i : goal.invariant-loop-i
 invariant-loop-i l = Looking l.image l.from l.n l.k l.next l.i
-
-abbrev pub decreases-loop-i : goal.decreases-loop-i
-decreases-loop-i l = l.n - l.i

@@ -45,8 +45,5 @@ loop-done-preserved c = (
       c.against_chunk-c.ensures,
 )
 
-pub shape_of-structs : goal.shape_of-structs
-shape_of-structs c = c.loop-done.invariant.0
-
 pub returns : goal.returns
 returns c = repeating_end _ _ _ c.requires.0 _ _ _ c.loop-done.invariant.1 c.loop-done-test.false

@@ -12,12 +12,12 @@ pub returns-then-count-eq0 : goal.returns-then-count-eq0
 returns-then-count-eq0 c =
     absurd
     (functions_none _ _ _ _ _ _ _ _ _ c.requires _ c.read_number.ensures _ _
-    (counted_at _ _ _ c.read_number.ensures _ _ _ c.in-Number.is c.wide-count.ensures) c.if-count-eq0.true)
+    (counted_at _ _ _ c.read_number.ensures _ _ _ c.in-Some.is c.wide-count.ensures) c.if-count-eq0.true)
 
 pub load_function-m-requires : goal.load_function-m-requires
 load_function-m-requires c =
     main_fits _ _ _ _ _ _ _ _ _ c.requires _ c.read_number.ensures _ _
-    (counted_at _ _ _ c.read_number.ensures _ _ _ c.in-Number.is c.wide-count.ensures)
+    (counted_at _ _ _ c.read_number.ensures _ _ _ c.in-Some.is c.wide-count.ensures)
     c.if-count-eq0.false
 
 pub overflow_add-t : goal.overflow_add-t
@@ -32,11 +32,11 @@ overflow_add-t c =
 pub load_others-requires : goal.load_others-requires
 load_others-requires c =
     others_fits _ _ _ _ _ _ _ _ _ c.requires _ c.read_number.ensures _ _
-    (counted_at _ _ _ c.read_number.ensures _ _ _ c.in-Number.is c.wide-count.ensures)
+    (counted_at _ _ _ c.read_number.ensures _ _ _ c.in-Some.is c.wide-count.ensures)
     c.if-count-eq0.false _ _ _ _ _ c.load_function-m.ensures
 
 pub returns : goal.returns
 returns c =
     functions_filled _ _ _ _ _ _ _ _ _ c.requires _ c.read_number.ensures _ _
-    (counted_at _ _ _ c.read_number.ensures _ _ _ c.in-Number.is c.wide-count.ensures)
+    (counted_at _ _ _ c.read_number.ensures _ _ _ c.in-Some.is c.wide-count.ensures)
     c.if-count-eq0.false _ _ _ _ _ c.load_function-m.ensures _ _ _ _ c.load_others.ensures

@@ -1,6 +1,6 @@
 -- `image_load::loading::load_others` meets its contract.
 use native.Mathlib.Omega.{arith}
-use Rattle.image_load.proofs.Placing.{others_begin, others_same, others_filled, others_fit, others_small, others_next}
+use Rattle.image_load.proofs.Placing.{others_begin, others_filled, others_fit, others_small, others_next}
 use Rattle.std.proofs.Common.{rules}
 use Rattle.image_load.proofs.loading.load_others.Goals as goal
 
@@ -26,26 +26,6 @@ overflow_add-c c =
 
 pub loop-i-preserved : goal.loop-i-preserved
 loop-i-preserved c = search (rules, others_next)
-
-pub shape_of-functions : goal.shape_of-functions
-shape_of-functions c =
-    (others_same _ _ _ _ _ _ _ _ c.requires _ _ _ _ _ _ _ _
-    c.loop-i.invariant).0
-
-pub shape_of-text : goal.shape_of-text
-shape_of-text c =
-    (others_same _ _ _ _ _ _ _ _ c.requires _ _ _ _ _ _ _ _
-    c.loop-i.invariant).1.0
-
-pub shape_of-code : goal.shape_of-code
-shape_of-code c =
-    (others_same _ _ _ _ _ _ _ _ c.requires _ _ _ _ _ _ _ _
-    c.loop-i.invariant).1.1.0
-
-pub shape_of-places : goal.shape_of-places
-shape_of-places c =
-    (others_same _ _ _ _ _ _ _ _ c.requires _ _ _ _ _ _ _ _
-    c.loop-i.invariant).1.1.1
 
 pub returns : goal.returns
 returns c = search (rules, others_filled)

@@ -6,9 +6,6 @@ use Rattle.image_load.proofs.loading.load_runs.Goals as goal
 pub loop-left-init : goal.loop-left-init
 loop-left-init c = runs_begin _ _ _ _ _ c.requires
 
-pub read_run-requires : goal.read_run-requires
-read_run-requires c = c.loop-left.invariant.runs.within
-
 pub shape_of-places-in_default : goal.shape_of-places-in_default
 shape_of-places-in_default c = search (rules, runs_same)
 
@@ -27,12 +24,12 @@ put_places-requires c = search (rules, runs_room)
 pub overflow_sub-left : goal.overflow_sub-left
 overflow_sub-left c =
     (runs_most _ _ _ _ _ c.requires _ _ _ _ c.loop-left.invariant c.loop-left-test.true _
-    c.read_run.ensures _ c.in-Is.is).0
+    c.read_run.ensures _ c.in-Ok.is).0
 
 pub loop-left-smaller : goal.loop-left-smaller
 loop-left-smaller c =
     (runs_most _ _ _ _ _ c.requires _ _ _ _ c.loop-left.invariant c.loop-left-test.true _
-    c.read_run.ensures _ c.in-Is.is).1
+    c.read_run.ensures _ c.in-Ok.is).1
 
 pub loop-left-preserved : goal.loop-left-preserved
 loop-left-preserved c = search (rules, runs_next)

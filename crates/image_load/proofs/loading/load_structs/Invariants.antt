@@ -1,11 +1,7 @@
 -- `image_load::loading::load_structs` meets its contract.
-use Prim.Native.Nat.{◌-◌}
 use Rattle.image_load.proofs.Filling.{FillingStructs}
 use Rattle.image_load.proofs.loading.load_structs.Given as goal
 
 abbrev pub invariant-loop-i : goal.invariant-loop-i
 invariant-loop-i l =
     FillingStructs l.image l.first l.count l.t0 l.initial.structs l.initial.text l.structs l.text l.next l.t l.i
-
-abbrev pub decreases-loop-i : goal.decreases-loop-i
-decreases-loop-i l = l.count - l.i

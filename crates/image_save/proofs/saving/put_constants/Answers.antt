@@ -1,6 +1,5 @@
 -- `image_save::saving::put_constants` meets its contract.
-use Prim.Native.Nat.{◌-◌}
-use Rattle.image_save.proofs.Putting.{constants_near, constants_start, constants_kept, constants_each, constants_step, constants_end}
+use Rattle.image_save.proofs.Putting.{constants_near, constants_start, constants_each, constants_step, constants_end}
 use Rattle.std.proofs.Common.{rules}
 use Rattle.image_save.proofs.saving.put_constants.Goals as goal
 
@@ -15,9 +14,6 @@ put_constant-next-requires c = search (rules, constants_each)
 
 pub loop-i-preserved : goal.loop-i-preserved
 loop-i-preserved c = search (rules, constants_step)
-
-pub shape_of-out : goal.shape_of-out
-shape_of-out c = search (rules, constants_kept)
 
 pub returns : goal.returns
 returns c = search (rules, constants_end)

@@ -1,6 +1,5 @@
 -- `image_save::saving::put_functions` meets its contract.
-use Prim.Native.Nat.{◌-◌}
-use Rattle.image_save.proofs.Orderly.{functions_near, main_puts, functions_start, functions_kept, function_puts, functions_step, functions_end}
+use Rattle.image_save.proofs.Orderly.{functions_near, main_puts, functions_start, function_puts, functions_step, functions_end}
 use Rattle.std.proofs.Common.{rules}
 use Rattle.image_save.proofs.saving.put_functions.Goals as goal
 
@@ -20,9 +19,6 @@ put_function-next-requires-in-loop-i c =
 
 pub loop-i-preserved : goal.loop-i-preserved
 loop-i-preserved c = search (rules, functions_step)
-
-pub shape_of-out : goal.shape_of-out
-shape_of-out c = search (rules, functions_kept)
 
 pub returns : goal.returns
 returns c = search (rules, functions_end)

@@ -1,5 +1,4 @@
 -- `image_save::saving::put_runs` meets its contract.
-use Prim.Native.Nat.{◌-◌}
 use Rattle.image_save.proofs.Imaging.{runs_start, runs_kept, runs_end, runs_ask, runs_small, runs_less, run_near, place_near, runs_next}
 use borrow.Author.Rules.{rules}
 use Rattle.image_save.proofs.saving.put_runs.Goals as goal

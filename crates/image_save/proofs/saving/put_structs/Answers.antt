@@ -1,6 +1,5 @@
 -- `image_save::saving::put_structs` meets its contract.
-use Prim.Native.Nat.{◌-◌}
-use Rattle.image_save.proofs.Putting.{structs_near, structs_start, structs_kept, structs_each, structs_step, structs_end}
+use Rattle.image_save.proofs.Putting.{structs_near, structs_start, structs_each, structs_step, structs_end}
 use Rattle.std.proofs.Common.{rules}
 use Rattle.image_save.proofs.saving.put_structs.Goals as goal
 
@@ -15,9 +14,6 @@ put_text-next-requires c = search (rules, structs_each)
 
 pub loop-i-preserved : goal.loop-i-preserved
 loop-i-preserved c = search (rules, structs_step)
-
-pub shape_of-out : goal.shape_of-out
-shape_of-out c = search (rules, structs_kept)
 
 pub returns : goal.returns
 returns c = search (rules, structs_end)

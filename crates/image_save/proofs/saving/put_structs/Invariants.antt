@@ -1,10 +1,6 @@
 -- `image_save::saving::put_structs` meets its contract.
-use Prim.Native.Nat.{◌-◌}
 use Rattle.image_save.proofs.Putting.{PuttingStructs}
 use Rattle.image_save.proofs.saving.put_structs.Given as goal
 
 abbrev pub invariant-loop-i : goal.invariant-loop-i
 invariant-loop-i l = PuttingStructs l.n l.structs l.text l.initial.out l.initial.next l.out l.next l.i
-
-abbrev pub decreases-loop-i : goal.decreases-loop-i
-decreases-loop-i l = l.n - l.i

@@ -1,17 +1,7 @@
 -- `layout::writes::put_bytes` meets its contract.
-use Prim.Native.Nat.{◌-◌}
-use Rattle.layout.proofs.Writing.{nothing_yet, another, whole}
+use Rattle.layout.proofs.Writing.{overwritten}
 use Rattle.std.proofs.Common.{rules}
 use Rattle.layout.proofs.writes.put_bytes.Goals as goal
 
-pub loop-i-init : goal.loop-i-init
-loop-i-init c = nothing_yet _ _ _
-
-pub loop-i-preserved : goal.loop-i-preserved
-loop-i-preserved c = search (rules, another)
-
-pub shape_of-s : goal.shape_of-s
-shape_of-s c = c.loop-i.invariant.same
-
 pub returns : goal.returns
-returns c = whole c.loop-i.invariant c.loop-i-test.false
+returns c = search (rules, overwritten)

@@ -1,25 +1,7 @@
--- `operand`: a byte is below 256.
-use native.Mathlib.Omega.{arith}
-use Prim.Native.Nat.{◌+◌}
+-- `operand`: two bytes.
+use mathlib.Core.Path.{refl, ◌∙◌}
 use Rattle.listing.proofs.Pieces.{word_is}
 use Rattle.listing.proofs.lines.operand.Goals as goal
 
-pub overflow_cast-result : goal.overflow_cast-result
-overflow_cast-result c = omega (arith, c.shared_slice_known-1.given c.args.i)
-
-pub overflow_cast-result-2 : goal.overflow_cast-result-2
-overflow_cast-result-2 c = omega (arith, c.shared_slice_known-2-1.given (c.args.i + 1))
-
-pub overflow_mul-result : goal.overflow_mul-result
-overflow_mul-result c = omega (arith, c.shared_slice_known-2-1.given (c.args.i + 1))
-
-pub overflow_add-result-2 : goal.overflow_add-result-2
-overflow_add-result-2 c =
-    omega (
-      arith,
-      c.shared_slice_known-2-1.given c.args.i,
-      c.shared_slice_known-2-1.given (c.args.i + 1),
-    )
-
 pub returns : goal.returns
-returns c = word_is _ _
+returns c = c.from.ensures ∙ c.from_le_bytes.ensures ∙ word_is _ _ refl refl

@@ -8,8 +8,8 @@ trace-requires c =
 
 pub returns-then-fine : goal.returns-then-fine
 returns-then-fine c =
-    trace_wrote c.args.functions.now c.args.main_places.now c.args.other_places.now c.args.n c.args.frames.now c.args.out.now c.innermost_at-callers.ensures c.read_frame-inner.ensures c.traceable-fine.ensures c.if-fine.true c.trace.ensures c.number-told.ensures
+    trace_wrote c.args.functions.now c.args.main_places.now c.args.other_places.now c.args.n c.args.frames.now c.args.out.now c.innermost_at-callers.ensures c.read_frame-inner.ensures c.traceable-fine.ensures c.if-fine.true c.trace.ensures
 
 pub returns : goal.returns
 returns c =
-    trace_none c.args.functions.now c.args.main_places.now c.args.other_places.now c.args.n c.args.frames.now c.args.out.now c.innermost_at-callers.ensures c.read_frame-inner.ensures c.traceable-fine.ensures c.if-fine.false c.refused-told.ensures
+    trace_none c.args.functions.now c.args.main_places.now c.args.other_places.now c.args.n c.args.frames.now c.args.out.now c.innermost_at-callers.ensures c.read_frame-inner.ensures c.traceable-fine.ensures c.if-fine.false

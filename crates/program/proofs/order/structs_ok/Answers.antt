@@ -6,5 +6,5 @@ use Rattle.program.proofs.order.structs_ok.Goals as goal
 pub returns-then-structs_inside : goal.returns-then-structs_inside
 returns-then-structs_inside c = search (rules, structs_is)
 
-pub returns : goal.returns
-returns c = search (rules, structs_not)
+pub returns-else-structs_inside : goal.returns-else-structs_inside
+returns-else-structs_inside c = search (rules, structs_not)

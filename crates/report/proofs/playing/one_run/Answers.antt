@@ -4,7 +4,7 @@ use Rattle.report.proofs.playing.one_run.Goals as goal
 
 pub returns-then-again : goal.returns-then-again
 returns-then-again c =
-    over_when_abandoned (c.begin-begun.ensures c.args.backtrace.now) c.is_paused-paused.ensures c.if-paused.true c.paused_in-k.ensures c.continue_run-part.ensures c.is_paused-again.ensures c.if-again.true c.paused_in-last.ensures c.abandon-end.ensures
+    over_when_abandoned (c.begin-begun.ensures c.args.backtrace.now) c.is_paused-paused.ensures c.if-paused.true c.paused_in-k.ensures c.continue_run-part.ensures c.is_paused-again.ensures c.if-again.true c.paused_in-last.ensures c.abandon.ensures
 
 pub returns-then-paused : goal.returns-then-paused
 returns-then-paused c =

@@ -2,4 +2,4 @@
 use Rattle.report.proofs.playing.play.Goals as goal
 
 pub returns : goal.returns
-returns c = record { frames = c.one_run-answer.new.frames; run = c.one_run-answer.ensures }
+returns c = record { frames = c.one_run.new.frames; run = c.one_run.ensures }

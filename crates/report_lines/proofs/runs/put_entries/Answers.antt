@@ -1,5 +1,4 @@
 -- `put_entries`: an entry a turn.
-use Prim.Native.Nat.{◌-◌}
 use borrow.Author.Rules.{rules}
 use Rattle.printing.proofs.Puts.{kept}
 use Rattle.report_lines.proofs.Lines.{none_traced, one_more, all_traced}

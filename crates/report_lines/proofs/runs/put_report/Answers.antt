@@ -1,17 +1,19 @@
 -- `put_report`: each answer's lines.
 use native.Mathlib.Omega.{arith}
+use mathlib.Core.Path.{ap, ◌∙◌}
 use borrow.Author.Rules.{rules}
+use Rattle.std.specs.Prelude.{Ok}
 use Rattle.model.specs.Basics.{ascii}
 use Rattle.report_lines.proofs.Lines.{cells_inside, entries_inside, paused_report, refused_report, value_report, continue_report, fault_report}
 use Rattle.report_lines.proofs.runs.put_report.Goals as goal
 
 pub put_answer-next-requires : goal.put_answer-next-requires
-put_answer-next-requires c = search (rules, cells_inside)
+put_answer-next-requires c = let is = c.in-Ok-Value.is ∙ ap Ok (rw c.in-Ok-Value.is at c.in-Ok-Value.field-0-is) in search (rules, cells_inside)
 
 pub put_entries-requires : goal.put_entries-requires
 put_entries-requires c =
     let h =
-    entries_inside c.requires c.in-Fault.is in
+    entries_inside c.requires (c.in-Ok-Fault.is ∙ ap Ok (rw c.in-Ok-Fault.is at c.in-Ok-Fault.field-0-is)) in
     let l = c.requires.small in (
       h,
       omega (
@@ -21,20 +23,20 @@ put_entries-requires c =
       ),
     )
 
-pub returns-in-Value : goal.returns-in-Value
+pub returns-in-Ok-Value : goal.returns-in-Ok-Value
 unfolding ascii
-returns-in-Value c = search (rules, value_report)
+returns-in-Ok-Value c = let is = c.in-Ok-Value.is ∙ ap Ok (rw c.in-Ok-Value.is at c.in-Ok-Value.field-0-is) in search (rules, value_report)
 
-pub returns-in-Continue : goal.returns-in-Continue
+pub returns-in-Ok-Continue : goal.returns-in-Ok-Continue
 unfolding ascii
-returns-in-Continue c = search (rules, continue_report)
+returns-in-Ok-Continue c = let is = c.in-Ok-Continue.is ∙ ap Ok (rw c.in-Ok-Continue.is at c.in-Ok-Continue.field-0-is) in search (rules, continue_report)
 
-pub returns-in-Fault : goal.returns-in-Fault
+pub returns-in-Ok-Fault : goal.returns-in-Ok-Fault
 unfolding ascii
-returns-in-Fault c = search (rules, fault_report, entries_inside)
+returns-in-Ok-Fault c = let is = c.in-Ok-Fault.is ∙ ap Ok (rw c.in-Ok-Fault.is at c.in-Ok-Fault.field-0-is) in search (rules, fault_report, entries_inside)
 
-pub returns-in-Paused : goal.returns-in-Paused
-returns-in-Paused c = search (rules, paused_report)
+pub returns-in-Ok-Paused : goal.returns-in-Ok-Paused
+returns-in-Ok-Paused c = let is = c.in-Ok-Paused.is ∙ ap Ok (rw c.in-Ok-Paused.is at c.in-Ok-Paused.field-0-is) in search (rules, paused_report)
 
-pub returns-in-Refused : goal.returns-in-Refused
-returns-in-Refused c = search (rules, refused_report)
+pub returns-in-Err : goal.returns-in-Err
+returns-in-Err c = search (rules, refused_report)

@@ -4,17 +4,17 @@ use Rattle.model.specs.Basics.{ascii}
 use Rattle.report_lines.proofs.Pieces.{scalar_is, true_is, false_is, string_is, reference_is, list_is, instance_is}
 use Rattle.report_lines.proofs.values.put_value.Goals as goal
 
-pub returns-then-b : goal.returns-then-b
+pub returns-in-Boolean-true : goal.returns-in-Boolean-true
 unfolding ascii
-returns-then-b c = search (rules, true_is)
+returns-in-Boolean-true c = search (rules, true_is)
 
 pub returns-in-Scalar : goal.returns-in-Scalar
 unfolding ascii
 returns-in-Scalar c = search (rules, scalar_is)
 
-pub returns-else-b : goal.returns-else-b
+pub returns-in-Boolean-false : goal.returns-in-Boolean-false
 unfolding ascii
-returns-else-b c = search (rules, false_is)
+returns-in-Boolean-false c = search (rules, false_is)
 
 pub returns-in-String : goal.returns-in-String
 unfolding ascii

@@ -13,14 +13,14 @@ returns-in_default c =
 
 pub returns-in_default-v : goal.returns-in_default-v
 returns-in_default-v c =
-    λ u rest d e. one_wrong c.requires c.pop.ensures (calls_named u _) c.in-Got.is
-    (λ j d. no_reference c.in-Got.v (search rules) _ d)
+    λ u rest d e. one_wrong c.requires c.pop.ensures (calls_named u _) c.in-Ok.is
+    (λ j d. no_reference c.in-Ok.v (search rules) _ d)
 
 pub returns-in_default-newest_function : goal.returns-in_default-newest_function
 returns-in_default-newest_function c =
     λ u rest d e. no_name
     c.requires c.pop.ensures
-    c.in-Got.is
+    c.in-Ok.is
     c.in-FunctionReference.is u _
     (named_as u _ _ _ rest e _ _ (search rules) c.pack.ensures
     c.part-name.ensures (c.newest_function.ensures rest)) c.in_default-newest_function.is
@@ -30,7 +30,7 @@ overflow_sub-below c = search (got_some, rules)
 
 pub returns : goal.returns
 returns c =
-    λ u rest d e. calls_name c.requires c.pop.ensures c.in-Got.is c.in-FunctionReference.is u _
+    λ u rest d e. calls_name c.requires c.pop.ensures c.in-Ok.is c.in-FunctionReference.is u _
     (named_as u _ _ _ rest e _ _ c.in-FunctionReference.known_told-in-FunctionReference-1-own.given.0.1 c.pack.ensures
     c.part-name.ensures (c.newest_function.ensures rest))
-    c.in-Number.is (c.enters.ensures u d)
+    c.in-Ok-newest_function.is (c.enters.ensures u d)

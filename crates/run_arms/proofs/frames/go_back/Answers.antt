@@ -19,7 +19,7 @@ pub write_value-requires : goal.write_value-requires
 write_value-requires c =
     omega (
       arith,
-      got_some _ _ c.pop.ensures c.in-Got.is,
+      got_some _ _ c.pop.ensures c.in-Ok.is,
       c.lesser-at.ensures,
     )
 

@@ -11,7 +11,7 @@ returns-in_default c =
 
 pub returns-in_default-v : goal.returns-in_default-v
 returns-in_default-v c =
-    one_wrong c.requires.0 c.pop.ensures (jumps_if_false _) c.in-Got.is
+    one_wrong c.requires.0 c.pop.ensures (jumps_if_false _) c.in-Ok.is
     (search (rules, no_boolean))
 
 pub overflow_sub-count : goal.overflow_sub-count

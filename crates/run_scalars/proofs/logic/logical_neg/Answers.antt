@@ -11,7 +11,7 @@ returns-in_default c = search (rules, one_none, denies)
 
 pub returns-in_default-v : goal.returns-in_default-v
 returns-in_default-v c =
-    one_wrong c.requires c.pop.ensures denies c.in-Got.is (λ j d. no_boolean c.in-Got.v (search rules) j d)
+    one_wrong c.requires c.pop.ensures denies c.in-Ok.is (λ j d. no_boolean c.in-Ok.v (search rules) j d)
 
 pub overflow_sub-sp : goal.overflow_sub-sp
 overflow_sub-sp c = search (got_some, rules)
@@ -20,10 +20,10 @@ pub write_value-requires : goal.write_value-requires
 write_value-requires c =
     omega (
       arith,
-      got_some _ _ c.pop.ensures c.in-Got.is,
+      got_some _ _ c.pop.ensures c.in-Ok.is,
     )
 
 pub returns : goal.returns
 returns c =
-    one_replaced c.requires c.pop.ensures c.in-Got.is denies (is_boolean_lem c.in-Boolean.is) refl
+    one_replaced c.requires c.pop.ensures c.in-Ok.is denies (is_boolean_lem c.in-Boolean.is) refl
     c.write_value.ensures

@@ -15,25 +15,25 @@ pub overflow_sub-count : goal.overflow_sub-count
 overflow_sub-count c =
     omega (
       arith,
-      two_scalars _ _ c.two_scalars.ensures c.in-Two.is,
+      two_scalars _ _ c.two_scalars.ensures c.in-Ok.is,
     )
 
-pub overflow_sub-count-in-Two : goal.overflow_sub-count-in-Two
-overflow_sub-count-in-Two c =
+pub overflow_sub-count-in-Ok : goal.overflow_sub-count-in-Ok
+overflow_sub-count-in-Ok c =
     omega (
       arith,
-      two_scalars _ _ c.two_scalars.ensures c.in-Two.is,
+      two_scalars _ _ c.two_scalars.ensures c.in-Ok.is,
     )
 
 pub write_value-requires : goal.write_value-requires
 write_value-requires c =
     omega (
       arith,
-      two_scalars _ _ c.two_scalars.ensures c.in-Two.is,
+      two_scalars _ _ c.two_scalars.ensures c.in-Ok.is,
     )
 
-pub returns-in-Bad : goal.returns-in-Bad
-returns-in-Bad c = search (rules, arithmetic_bad)
+pub returns-in-Err : goal.returns-in-Err
+returns-in-Err c = search (rules, arithmetic_bad)
 
 pub returns-else-strict_fault : goal.returns-else-strict_fault
 returns-else-strict_fault c = search (rules, computed, left_place)

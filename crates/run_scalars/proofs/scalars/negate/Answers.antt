@@ -12,7 +12,7 @@ returns-in_default c = search (rules, one_none, negates)
 
 pub returns-in_default-v : goal.returns-in_default-v
 returns-in_default-v c =
-    one_wrong c.requires c.pop.ensures negates c.in-Got.is (λ j d. no_scalar c.in-Got.v (search rules) j d)
+    one_wrong c.requires c.pop.ensures negates c.in-Ok.is (λ j d. no_scalar c.in-Ok.v (search rules) j d)
 
 pub overflow_sub-sp : goal.overflow_sub-sp
 overflow_sub-sp c = search (got_some, rules)
@@ -21,10 +21,10 @@ pub write_value-requires : goal.write_value-requires
 write_value-requires c =
     omega (
       arith,
-      got_some _ _ c.pop.ensures c.in-Got.is,
+      got_some _ _ c.pop.ensures c.in-Ok.is,
     )
 
 pub returns : goal.returns
 returns c =
-    one_replaced c.requires c.pop.ensures c.in-Got.is negates (is_scalar_lem c.in-Scalar.is)
+    one_replaced c.requires c.pop.ensures c.in-Ok.is negates (is_scalar_lem c.in-Scalar.is)
     (ap Scalar c.negate.ensures) c.write_value.ensures

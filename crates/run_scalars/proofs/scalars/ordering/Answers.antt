@@ -6,20 +6,20 @@ use Rattle.run_arms.proofs.Posts.{ordering_bad, ordered}
 use Rattle.run_scalars.proofs.scalars.ordering.Goals as goal
 
 pub overflow_sub-count : goal.overflow_sub-count
-overflow_sub-count c = omega (arith, two_scalars _ _ c.two_scalars.ensures c.in-Two.is)
+overflow_sub-count c = omega (arith, two_scalars _ _ c.two_scalars.ensures c.in-Ok.is)
 
-pub overflow_sub-count-in-Two : goal.overflow_sub-count-in-Two
-overflow_sub-count-in-Two c = omega (arith, two_scalars _ _ c.two_scalars.ensures c.in-Two.is)
+pub overflow_sub-count-in-Ok : goal.overflow_sub-count-in-Ok
+overflow_sub-count-in-Ok c = omega (arith, two_scalars _ _ c.two_scalars.ensures c.in-Ok.is)
 
 pub write_value-requires : goal.write_value-requires
 write_value-requires c =
     omega (
       arith,
-      two_scalars _ _ c.two_scalars.ensures c.in-Two.is,
+      two_scalars _ _ c.two_scalars.ensures c.in-Ok.is,
     )
 
-pub returns-in-Bad : goal.returns-in-Bad
-returns-in-Bad c = search (rules, ordering_bad)
+pub returns-in-Err : goal.returns-in-Err
+returns-in-Err c = search (rules, ordering_bad)
 
-pub returns-in-Two : goal.returns-in-Two
-returns-in-Two c = search (rules, ordered, left_place)
+pub returns-in-Ok : goal.returns-in-Ok
+returns-in-Ok c = search (rules, ordered, left_place)
