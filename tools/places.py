@@ -54,7 +54,7 @@ def numbered():
     """refusals, faults and kinds written as numbers: literals that are answered, and functions that answer one"""
     for path, text in files():
         for n, line in enumerate(code(text).split("\n"), 1):
-            if re.search(r"Refused\(\d+\)|return (1[6-9]|2[0-9]);|^    (1[6-9]|2[0-5])$|fault: \d+|=> \d+ as u8|: u8\) -> RunResult|-> u8$", line):
+            if re.search(r"Refused\(\d+\)|return (1[6-9]|2[0-9]);|^    (1[6-9]|2[0-5])$|fault: \d+|=> \d+ as u8|: u8\) -> (?:RunResult|Halt)|-> u8$", line):
                 yield f"{path}:{n}: {line.strip()}"
 
 

@@ -79,6 +79,7 @@ fn play(rt: &impl Print, script: &[u8], stores: &mut Stores)
 {
     let mut m = no_machine();
     let mut next = Some(first_line(script));
+    // Where the next line begins is read off this one, so this is no `for`.
     while let Some(l) = next {
         m = turn(rt, m, l, script, stores);
         next = next_line(l, script);

@@ -9,7 +9,8 @@ ghost use Rattle.laws_names.specs.Sorted.{Edge, moved_up, struct_put};
 use crate::reads::{first, index, part, same_bytes, second};
 use std::mem::swap;
 
-// Whether one name stands before another: it is less at the first difference, or ends there.
+// Whether one name stands before another: it is less at the first difference, or ends there. (The library says it by itself; this
+// contract says it in the words in which the order of struct names is defined.)
 pub fn before(a: &[u8], b: &[u8]) -> bool
     ensures { result ≡ before a.now b.now }
 {
@@ -31,6 +32,7 @@ pub fn spot(name: &[u8], n: usize, structs: &[u64], text: &[u8]) -> usize
 {
     let mut low = 0;
     let mut high = n;
+    // What is left is halved, so this is no `for`.
     while low < high {
         let mid = low + (high - low) / 2;
         if before(part(text, in_order(structs, mid)), name) {

@@ -8,7 +8,7 @@ ghost use Rattle.model.specs.Emission.{text_room};
 
 use model::{Counts, HALF, MOST_PLACES};
 
-// The smaller of two numbers.
+// The smaller of two numbers. (The library says it by itself; proofs above cite this contract.)
 pub fn lesser(a: usize, b: usize) -> usize
     ensures { result ≡ min a b }
 {
@@ -73,7 +73,7 @@ pub fn part(text: &[u8], w: u64) -> &[u8]
     &text[from..to]
 }
 
-// Whether the bytes are the same.
+// Whether the bytes are the same. (The library says it by itself; proofs above cite this contract.)
 pub fn same_bytes(a: &[u8], b: &[u8]) -> bool
     ensures { result ≡ same_bytes a.now b.now }
 {

@@ -3,7 +3,7 @@ ghost use Rattle.std.specs.Prelude.{◌≡◌, ◌+◌, ◌*◌, ◌≤◌, leng
 ghost use Rattle.model.specs.Values.{put_words};
 ghost use Rattle.model.specs.Emission.{written};
 
-// The bytes from place at on.
+// The bytes from place at on. (The library says it by itself; proofs above cite this contract.)
 pub fn put_bytes(s: &mut [u8], at: usize, bytes: &[u8])
     requires { at + length bytes.now ≤ length s.old }
     ensures { s.new ≡ written s.old at bytes.now }
@@ -11,7 +11,7 @@ pub fn put_bytes(s: &mut [u8], at: usize, bytes: &[u8])
     s[at..at + bytes.len()].copy_from_slice(bytes);
 }
 
-// One place of the source for each of n bytes.
+// One place of the source for each of n bytes. (The library says it by itself; proofs above cite this contract.)
 pub fn put_places(s: &mut [u32], at: usize, n: usize, place: u32)
     requires { at + n ≤ length s.old }
     ensures { s.new ≡ written s.old at (replicate n place) }
