@@ -3,23 +3,22 @@ use mathlib.Core.Path.{◌≡◌, refl, sym, subst}
 use mathlib.Core.List.{List}
 use Prim.Native.Nat.{ℕ, ◌≤◌}
 use lib.ListN.{length, take}
-use Rattle.streams.specs.Reads.{ReadAs}
 use Rattle.streams.specs.Answers.{Answered, Shown}
 use Rattle.std.specs.Prelude.{None, Option, Some}
 use Rattle.std.specs.Borrow.{Bor, MutBor}
 use Rattle.std.specs.Fn.{Once}
 use Rattle.streams.specs.Saying.{Fits, SaidBy}
 
-module _ (says : List ℕ → List ℕ → List ℕ → Type 0) (r : Option ℕ) (store out : List ℕ) where
-  -- what was read is answered by what is said of it
-  pub read_answered : ReadAs r store → (n : ℕ) (out' : List ℕ) → r ≡ Some n → says (take n store) out out' → Shown says store out out'
-  unfolding Answered
-  read_answered h n out' e s = record { input = r; read = h; answered = subst (λ q. Answered says q store out out') (sym e) s }
+-- what was read is answered by what is said of it
+pub read_answered :
+    (says : List ℕ → List ℕ → List ℕ → Type 0) (r : Option ℕ) (n : ℕ) (store out out' : List ℕ) → r ≡ Some n → says (take n store) out out' → Answered says r store out out'
+unfolding Answered
+read_answered says r n store out out' e h = subst (λ q. Answered says q store out out') (sym e) h
 
-  -- what could not be read is answered by nothing
-  pub failed_answered : ReadAs r store → r ≡ None → Shown says store out out
-  unfolding Answered
-  failed_answered h e = record { input = r; read = h; answered = subst (λ q. Answered says q store out out) (sym e) refl }
+-- what could not be read is answered by nothing
+pub failed_answered : (says : List ℕ → List ℕ → List ℕ → Type 0) (r : Option ℕ) (store out : List ℕ) → r ≡ None → Answered says r store out out
+unfolding Answered
+failed_answered says r store out e = subst (λ q. Answered says q store out out) (sym e) refl
 
 -- what is answered by what is said of it is answered by all that this tells
 module _ {says tells : List ℕ → List ℕ → List ℕ → Type 0} (so : (bytes out out' : List ℕ) → says bytes out out' → tells bytes out out') where

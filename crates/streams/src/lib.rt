@@ -3,7 +3,7 @@
 #![tactic(auto)]
 
 ghost use Rattle.streams.specs.Reads.{ReadAs, IsPrefixLen};
-ghost use Rattle.streams.specs.Answers.{Shown};
+ghost use Rattle.streams.specs.Answers.{Answered, Shown};
 ghost use Rattle.streams.specs.Saying.{SaidBy, Fits};
 
 use std::io;
@@ -46,6 +46,27 @@ pub fn write_output(rt: &(impl Print + Eprint), text: &[u8]) {
     }
 }
 
+// Prints what `say` puts at the front of out of the bytes that were read: it answers the length of its text. Where they could not be read nothing
+// is said. What was read is an argument here, so that no program can pass over it.
+fn answer<F: FnOnce(&[u8], &mut [u8]) -> usize>(
+    rt: &(impl Print + Eprint),
+    input: Option<usize>,
+    image: &[u8],
+    out: &mut [u8],
+    say: F,
+)
+    requires read { ReadAs input image.now }
+    requires callable { F.IsAlwaysCallable say }
+    requires fits { Fits F.FnOnce say }
+    ensures { Answered (SaidBy F.FnOnce say) input image.now out.old out.new }
+{
+    let Some(n) = input else {
+        return;
+    };
+    let len = say(&image[..n], out);
+    write_output(rt, &out[..len]);
+}
+
 // Reads standard input into image, and prints what `say` puts at the front of out of what was read: it answers the length of its text. Where
 // standard input could not be read nothing is said.
 pub fn show<F: FnOnce(&[u8], &mut [u8]) -> usize>(
@@ -58,11 +79,8 @@ pub fn show<F: FnOnce(&[u8], &mut [u8]) -> usize>(
     requires fits { Fits F.FnOnce say }
     ensures { Shown (SaidBy F.FnOnce say) image.new out.old out.new }
 {
-    let Some(n) = read_input(rt, image) else {
-        return;
-    };
-    let len = say(&image[..n], out);
-    write_output(rt, &out[..len]);
+    let input = read_input(rt, image);
+    answer(rt, input, image, out, say);
 }
 
 // Reads until buf is full, the input ends or a read fails, and returns how many bytes it put at the start of buf. On an empty buf it makes no
