@@ -1,5 +1,5 @@
 -- What records come to, by what a function that is called at each record's number answers.
-use Rattle.std.specs.Prelude.{◌≡◌, Bool, true, false, List, [], ◌∷◌, ℕ, ◌+◌, length, Result, Ok}
+use Rattle.std.specs.Prelude.{◌≡◌, Bool, true, false, List, [], ◌∷◌, ℕ, ◌+◌, ◌^◌, ◌≤◌, length, Result, Ok, Err}
 use Rattle.std.specs.Fn.{Mut, Called}
 use Rattle.records.specs.declared.Stop.{Stop}
 use Rattle.records.specs.declared.Tally.{Tally}
@@ -22,3 +22,8 @@ module _ {F : Type 0} (g : Mut F (ℕ × Unit {0}) (Result Bool Stop)) (first : 
     pub judged : Judged verdicts last
     pub cases : all.cases ≡ length verdicts
     pub differing : all.differences ≡ differences verdicts
+
+  -- counting ended where there was no record to go on with: the call behind the counted ones answered so; or at the last number there is
+  pub data Ended (all : Tally) : Type 0 where
+    no_more : {f last : F} {stop : Stop} → Counted all f → Called g f (all.cases, tt) (Err stop) last → Ended all
+    no_number : {last : F} → Counted all last → 2 ^ 64 ≤ all.cases + 1 → Ended all

@@ -4,7 +4,7 @@
 
 ghost use Rattle.std.specs.Prelude.{◌≡◌, ◌+◌, ◌≤◌, length};
 ghost use Rattle.records.specs.Reading.{size_at, HeadRead, came_of, PartsRead};
-ghost use Rattle.records.specs.Counting.{Counted};
+ghost use Rattle.records.specs.Counting.{Counted, Ended};
 
 use std::io;
 use streams::read_full;
@@ -79,7 +79,8 @@ pub fn say_total(rt: &impl Print, all: Tally) {
 // Counts the records that `next` reads and judges, each by its number, until there is none to go on with: next answers whether a record agrees.
 pub fn count<F: FnMut(u64) -> Result<bool, Stop>>(rt: &impl Print, mut next: F) -> Tally
     requires { F.IsAlwaysCallable next }
-    ensures { (last : F) × Counted F.FnMut next result last }
+    ensures counted { (last : F) × Counted F.FnMut next result last }
+    ensures ended { Ended F.FnMut next result }
 {
     let mut all = Tally {
         cases: 0,
@@ -96,7 +97,7 @@ pub fn count<F: FnMut(u64) -> Result<bool, Stop>>(rt: &impl Print, mut next: F) 
                 if let Stop::Cut = stop {
                     say_cut(rt);
                 }
-                break;
+                return all;
             }
         }
     }

@@ -2,6 +2,7 @@
 use denote.Param.Always.{mut_next}
 use mathlib.Core.Path.{refl}
 use native.Mathlib.Omega.{arith}
+use Rattle.records.specs.Counting.{no_more, no_number}
 use Rattle.records.proofs.Counts.{one_at_most, fewer, nothing, counted}
 use Rattle.records.proofs.count.Goals as goal
 
@@ -17,3 +18,9 @@ overflow_add-all-in-Ok g c =
 pub loop-all-preserved : goal.loop-all-preserved
 loop-all-preserved g c =
     (mut_next _ _ _ _ _ _ c.next.ensures refl c.loop-all.invariant.0, counted c.loop-all.invariant.1 c.in-Ok.ensures c.from.ensures)
+
+pub returns-in-Err-clause-ended : goal.returns-in-Err-clause-ended
+returns-in-Err-clause-ended g c = no_more c.loop-all.invariant.1 c.in-Err.ensures
+
+pub returns-clause-ended : goal.returns-clause-ended
+returns-clause-ended g c = no_number c.loop-all.invariant.1 (omega (arith, c.loop-all-test.false))
