@@ -1,5 +1,5 @@
 -- A line's words, and the numbers that words say.
-use Rattle.std.specs.Prelude.{Bool, not, List, [], ◌∷◌, ℕ, zero, suc, ◌+◌, ◌*◌, ◌-◌, ◌%◌, ◌^◌, ltb, leb, eqb, length, take, drop, set, replicate, if◌then◌else◌, Option, Some, None, option_and_then, is_some}
+use Rattle.std.specs.Prelude.{Bool, true, false, not, ◌||◌, List, [], ◌∷◌, ℕ, zero, suc, ◌+◌, ◌*◌, ◌-◌, ◌%◌, ◌^◌, ltb, leb, eqb, length, take, drop, set, replicate, if◌then◌else◌, Option, Some, None, option_and_then, is_some}
 use Rattle.console_script.specs.declared.Line.{Line}
 use Rattle.console_script.specs.declared.Args.{Args}
 use Rattle.console_script.specs.declared.Most.{Most}
@@ -104,33 +104,33 @@ args_of s k end most =
 
 -- ---- bytes in hex
 
--- what was read, none where it is no byte or has no room, and the store that its bytes went to
+-- what was read, and the store that its bytes went to
 pub record Hexed : Type 0 where
-  pub read : Option Bytes
+  pub read : Bytes
   pub out : List ℕ
+
+-- a bad letter, or a byte that has no room: reading goes on, and is not good any more
+unfoldable pub broken : Bytes → Bytes
+broken h = record { size = h.size; high = h.high; good = false }
 
 -- a digit behind those that were read: the first of a byte, or the second, with which the byte goes to its place
 unfoldable pub with_low : Bytes → List ℕ → ℕ → Option ℕ → Hexed
-with_low h out d None = record { read = Some (record { size = h.size; high = Some d }); out = out }
+with_low h out d None = record { read = record { size = h.size; high = Some d; good = h.good }; out = out }
 with_low h out d (Some high) =
-    if leb (length out) h.size then record { read = None; out = out } else
-    record { read = Some (record { size = h.size + 1; high = None }); out = set out h.size ((high * 16 + d) % 256) }
+    if leb (length out) h.size then record { read = broken h; out = out } else
+    record { read = record { size = h.size + 1; high = None; good = h.good }; out = set out h.size ((high * 16 + d) % 256) }
 
 unfoldable pub with_digit_of : Bytes → List ℕ → Option ℕ → Hexed
-with_digit_of h out None = record { read = None; out = out }
+with_digit_of h out None = record { read = broken h; out = out }
 with_digit_of h out (Some d) = with_low h out d h.high
 
 -- a character behind those that were read: a blank, or a digit
-unfoldable pub with_read : Option Bytes → List ℕ → ℕ → Hexed
-with_read None out b = record { read = None; out = out }
-with_read (Some h) out b = if eqb b 32 then record { read = Some h; out = out } else with_digit_of h out (digit_of b)
-
 unfoldable pub with_byte : Hexed → ℕ → Hexed
-with_byte x b = with_read x.read x.out b
+with_byte x b = if eqb b 32 then x else with_digit_of x.read x.out (digit_of b)
 
--- how many bytes were read, where no digit is left over
+-- how many bytes were read, where all was good and no digit is left over
 unfoldable pub whole : Bytes → Option ℕ
-whole h = if is_some h.high then None else Some h.size
+whole h = if not h.good || is_some h.high then None else Some h.size
 
 -- how many bytes words say, and the store with them at its front
 pub record Read : Type 0 where
@@ -138,7 +138,7 @@ pub record Read : Type 0 where
   pub out : List ℕ
 
 unfoldable pub read_of : Hexed → Read
-read_of x = record { size = option_and_then whole x.read; out = x.out }
+read_of x = record { size = whole x.read; out = x.out }
 
 -- the space that bytes are read into
 unfoldable pub blank : List ℕ
@@ -146,4 +146,4 @@ blank = replicate 16384 0
 
 -- the bytes that words say, two digits to a byte, at the front of a store
 unfoldable pub hex_of : List ℕ → List ℕ → Read
-hex_of words out = read_of (along with_byte (record { read = Some (record { size = 0; high = None }); out = out }) words)
+hex_of words out = read_of (along with_byte (record { read = record { size = 0; high = None; good = true }; out = out }) words)

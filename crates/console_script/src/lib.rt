@@ -4,7 +4,7 @@
 pub mod stores; // stores.rt: how large each store is
 
 ghost use Rattle.std.specs.Prelude.{◌≡◌, ◌*◌, ◌/◌, ◌≤◌, min, Some};
-ghost use Rattle.console_script.specs.Words.{next_of, next_word, cut_of, first_line, next_line, line_of, words_from, word_of, digit_of, with_digit, number_of, alone_of, room_of, arg_of, args_of, with_byte, hex_of};
+ghost use Rattle.console_script.specs.Words.{next_of, next_word, cut_of, first_line, next_line, line_of, words_from, word_of, digit_of, with_digit, number_of, alone_of, room_of, arg_of, args_of, broken, with_byte, whole, hex_of};
 
 // A line: where it starts and ends, its number, and how many more there can be.
 #[derive(Clone, Copy)]
@@ -272,53 +272,74 @@ pub fn read_room(line: &[u8], k: usize) -> Option<usize>
     Some(n as usize)
 }
 
-// Bytes in hex as they are read: how many there are, and the digit that waits for its second.
+// Bytes in hex as they are read: how many there are, the digit that waits for its second, and whether all is well. A flag beside them, and no Option of
+// them: behind a bad letter reading goes on, and what it then leaves in the store is promised too.
 #[derive(Clone, Copy)]
 pub struct Bytes {
     pub size: usize,
     pub high: Option<u8>,
+    pub good: bool,
+}
+
+// A bad letter, or a byte that has no room.
+#[tactic(auto, unfolding(crate::specs::Words::broken))]
+fn broken(h: Bytes) -> Bytes
+    ensures { result ≡ broken h }
+{
+    Bytes { good: false, ..h }
 }
 
 // One character more, into out.
-#[tactic(auto, unfolding(crate::specs::Words::with_byte, crate::specs::Words::with_read, crate::specs::Words::with_digit_of, crate::specs::Words::with_low))]
-fn with_byte(h: Bytes, b: u8, out: &mut [u8]) -> Option<Bytes>
-    ensures { record { read = result; out = out.new } ≡ with_byte (record { read = Some h; out = out.old }) b }
+#[tactic(auto, unfolding(crate::specs::Words::with_byte, crate::specs::Words::with_digit_of, crate::specs::Words::with_low))]
+fn with_byte(h: Bytes, b: u8, out: &mut [u8]) -> Bytes
+    ensures { record { read = result; out = out.new } ≡ with_byte (record { read = h; out = out.old }) b }
 {
-    let size = h.size;
     if b == b' ' {
-        return Some(h);
+        return h;
     }
-    let low = digit(b)?;
-    let Some(high) = h.high else {
-        return Some(Bytes {
-            size,
-            high: Some(low),
-        });
+    let Some(low) = digit(b) else {
+        return broken(h);
     };
+    let Some(high) = h.high else {
+        return Bytes {
+            high: Some(low),
+            ..h
+        };
+    };
+    let size = h.size;
     if out.len() <= size {
-        return None;
+        return broken(h);
     }
     out[size] = high.wrapping_mul(16).wrapping_add(low);
-    Some(Bytes {
+    Bytes {
         size: size + 1,
         high: None,
-    })
+        good: h.good,
+    }
+}
+
+// How many bytes were read, where all was good and no digit is left over.
+#[tactic(auto, unfolding(crate::specs::Words::whole))]
+fn all_read(h: Bytes) -> Option<usize>
+    ensures { result ≡ whole h }
+{
+    if !h.good || h.high.is_some() {
+        return None;
+    }
+    Some(h.size)
 }
 
 // The bytes that words say in hex, two digits to a byte, blanks between where one likes: how many they are.
-#[tactic(auto, unfolding(crate::specs::Words::hex_of, crate::specs::Words::read_of, crate::specs::Words::whole))]
 pub fn read_bytes(words: &[u8], out: &mut [u8]) -> Option<usize>
     ensures { record { size = result; out = out.new } ≡ hex_of words.now out.old }
 {
     let mut h = Bytes {
         size: 0,
         high: None,
+        good: true,
     };
     for b in words {
-        h = with_byte(h, *b, out)?;
+        h = with_byte(h, *b, out);
     }
-    if h.high.is_some() {
-        return None;
-    }
-    Some(h.size)
+    all_read(h)
 }
