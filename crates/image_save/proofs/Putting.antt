@@ -159,6 +159,11 @@ pub word_bytes : (w : ℕ) → to_le_bytes w64 w ≡ bytes_of 8 w
 unfolding bytes_of
 word_bytes w = ap (λ (l : List ℕ). w % 256 ∷ l) (bytes_from 0 7 w)
 
+-- there are eight of them, whatever the word is
+pub word_near : (at w x : ℕ) (l : List ℕ) → l ≡ to_le_bytes w64 x → Near at (bytes_of 8 w) → Near at l
+unfolding Near bytes_of
+word_near at w x l e h = let a = ap length (e ∙ word_bytes x) in omega arith
+
 -- ---- constants
 
 -- a kind and a body
