@@ -1,5 +1,5 @@
 -- The first n frames unentered, as the beginning of a run leaves them.
---     none_yet, next-frame, one_more, all_of     the loop that sets the numbers to 0
+--     none_yet, next-frame, one_more, one_more_of, all_of     the loop that sets the numbers to 0
 --     unentered-room                     as many frames as before
 --     unentered-taken                    the first frames, each unentered
 --     innermost-unentered                a machine's innermost frame in them, unentered
@@ -18,6 +18,13 @@ use Rattle.model.specs.Machines.{innermost, callers_in}
 use Rattle.frames.specs.Links.{no_frame, all_unentered}
 
 -- ---- the loop
+
+pub unentered_room : (n : ℕ) (frames : List Frame) → length (all_unentered n frames) ≡ length frames
+unfolding all_unentered
+unentered_room zero [] = refl
+unentered_room zero (f ∷ fs) = refl
+unentered_room (suc n) [] = refl
+unentered_room (suc n) (f ∷ fs) = ap suc (unentered_room n fs)
 
 pub none_yet : (frames : List Frame) → frames ≡ all_unentered 0 frames
 unfolding all_unentered
@@ -39,19 +46,16 @@ one_more zero (f ∷ []) h = refl
 one_more zero (f ∷ g ∷ gs) h = refl
 one_more (suc i) (f ∷ fs) h = ap (λ (gs : List Frame). unentered f ∷ gs) (one_more i fs (omega arith))
 
+-- whatever the frames are that are gone over
+pub one_more_of : (i : ℕ) (frames here : List Frame) → here ≡ all_unentered i frames → i < length here → set here i (unentered (get_or here i no_frame)) ≡ all_unentered (suc i) frames
+one_more_of i frames here e h = rw (e, next_frame i frames) (one_more i frames (omega (arith, ap length e ∙ unentered_room i frames)))
+
 -- past the last of the first n frames all of them are unentered
 pub all_of : (i n : ℕ) (frames : List Frame) → length (take n frames) ≤ i → all_unentered i (take n frames) ++ drop n frames ≡ all_unentered n frames
 unfolding all_unentered
 all_of i n frames h = rw (take_all i (take n frames) h, drop_all i (take n frames) h, append-nil (map unentered (take n frames))) refl
 
 -- ---- what they are
-
-pub unentered_room : (n : ℕ) (frames : List Frame) → length (all_unentered n frames) ≡ length frames
-unfolding all_unentered
-unentered_room zero [] = refl
-unentered_room zero (f ∷ fs) = refl
-unentered_room (suc n) [] = refl
-unentered_room (suc n) (f ∷ fs) = ap suc (unentered_room n fs)
 
 pub unentered_taken : (n k : ℕ) (frames : List Frame) → k ≤ n → take k (all_unentered n frames) ≡ map unentered (take k frames)
 unfolding all_unentered
