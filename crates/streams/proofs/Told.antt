@@ -27,6 +27,13 @@ module _ {says tells : List ℕ → List ℕ → List ℕ → Type 0} (so : (byt
   answered_so (Some n) store out out' h = so _ _ _ h
   answered_so None store out out' h = h
 
+-- what holds of each call of a function holds of what it says of what was read
+module _ {F : Type 0} (g : Once F (Bor (List ℕ) × (MutBor (List ℕ) × Unit {0})) (ℕ × (MutBor (List ℕ) × Unit {0}))) (f : F) where
+  pub answered_by : (tells : List ℕ → List ℕ → List ℕ → Type 0)
+      → ((bytes : Bor (List ℕ)) (out out' : MutBor (List ℕ)) (n : ℕ) → g.post f (bytes, (out, tt)) (n, (out', tt)) → tells bytes.now out.now out'.now)
+      → (r : Option ℕ) (store out out' : List ℕ) → Answered (SaidBy g f) r store out out' → Answered tells r store out out'
+  answered_by tells h = answered_so (λ bytes out out' k. rw (← k.1.shows, ← k.1.holds, ← k.1.leaves) (h _ _ _ _ k.1.met))
+
 -- what holds of each call of a function holds of what it says
 module _ {F : Type 0} {g : Once F (Bor (List ℕ) × (MutBor (List ℕ) × Unit {0})) (ℕ × (MutBor (List ℕ) × Unit {0}))} {f : F} where
   pub fits_so : ((bytes : Bor (List ℕ)) (out out' : MutBor (List ℕ)) (n : ℕ) → length out'.now ≡ length out.now → g.post f (bytes, (out, tt)) (n, (out', tt)) → n ≤ length out'.now)
@@ -37,8 +44,4 @@ module _ {F : Type 0} {g : Once F (Bor (List ℕ) × (MutBor (List ℕ) × Unit 
   pub shown_so : (tells : List ℕ → List ℕ → List ℕ → Type 0)
       → ((bytes : Bor (List ℕ)) (out out' : MutBor (List ℕ)) (n : ℕ) → g.post f (bytes, (out, tt)) (n, (out', tt)) → tells bytes.now out.now out'.now)
       → {store out out' : List ℕ} → Shown (SaidBy g f) store out out' → Shown tells store out out'
-  shown_so tells h s = record {
-    input = s.input;
-    read = s.read;
-    answered = answered_so (λ bytes out out' k. rw (← k.1.shows, ← k.1.holds, ← k.1.leaves) (h _ _ _ _ k.1.met)) _ _ _ _ s.answered;
-  }
+  shown_so tells h s = record { input = s.input; read = s.read; answered = answered_by g f tells h _ _ _ _ s.answered }

@@ -47,7 +47,7 @@ pub fn write_output(rt: &(impl Print + Eprint), text: &[u8]) {
 }
 
 // Prints what `say` puts at the front of out of the bytes that were read: it answers the length of its text. Where they could not be read nothing
-// is said. What was read is an argument here, so that no program can pass over it.
+// is said.
 fn answer<F: FnOnce(&[u8], &mut [u8]) -> usize>(
     rt: &(impl Print + Eprint),
     input: Option<usize>,
@@ -68,19 +68,21 @@ fn answer<F: FnOnce(&[u8], &mut [u8]) -> usize>(
 }
 
 // Reads standard input into image, and prints what `say` puts at the front of out of what was read: it answers the length of its text. Where
-// standard input could not be read nothing is said.
+// standard input could not be read nothing is said. It answers what was read, so that a program can say that this is what it printed of.
 pub fn show<F: FnOnce(&[u8], &mut [u8]) -> usize>(
     rt: &(impl io::Input + Print + Eprint),
     image: &mut [u8],
     out: &mut [u8],
     say: F,
-)
+) -> Option<usize>
     requires callable { F.IsAlwaysCallable say }
     requires fits { Fits F.FnOnce say }
-    ensures { Shown (SaidBy F.FnOnce say) image.new out.old out.new }
+    ensures shown { Shown (SaidBy F.FnOnce say) image.new out.old out.new }
+    ensures answered { Answered (SaidBy F.FnOnce say) result image.new out.old out.new }
 {
     let input = read_input(rt, image);
     answer(rt, input, image, out, say);
+    input
 }
 
 // Reads until buf is full, the input ends or a read fails, and returns how many bytes it put at the start of buf. On an empty buf it makes no

@@ -5,4 +5,4 @@ use Rattle.noter.proofs.Whole.{nothing_lost}
 use Rattle.noter.proofs.show_all.Goals as goal
 
 pub returns : goal.returns
-returns g c = nothing_lost _ _ _ c.show.ensures (λ i. omega (arith, c.type_inv.image i)) (search rules)
+returns g c = nothing_lost _ _ _ c.show.ensures.shown (λ i. omega (arith, c.type_inv.image i)) (search rules)
