@@ -43,7 +43,22 @@ fn over_frames(
     let lent_copy = &mut copy[..words];
     let lent_trace = &mut trace[..entries];
     let answer = with_frames(
-        m, call, image, program, stack, cells, lent_copy, lent_trace, frames,
+        m,
+        call,
+        image,
+        &mut program.constants,
+        &mut program.structs,
+        &mut program.functions,
+        &mut program.text,
+        &mut program.main,
+        &mut program.main_places,
+        &mut program.other,
+        &mut program.other_places,
+        stack,
+        cells,
+        lent_copy,
+        lent_trace,
+        frames,
     );
     say_answer(rt, m, answer, cells, trace)
 }

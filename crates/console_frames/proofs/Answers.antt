@@ -46,34 +46,34 @@ module _ (m : Vm) (image : List ℕ) (p : Stores) (stack cells copy trace words 
   unfolding Called
   load_called e ek = making (load_machine_of m.run.on image p fs) before e ek
 
-  running : (call : RunCall) (stack' cells' : List ℕ) (fs' : List Frame) (copy' trace' : List ℕ) {x : Result Halt Refusal} {lent : Stores} → lent ≡ p
-      → RunPost call m lent (run_lent stack cells fs copy trace) x (run_lent stack' cells' fs' copy' trace')
+  running : (call : RunCall) (stack' cells' : List ℕ) (fs' : List Frame) (copy' trace' : List ℕ) {x : Result Halt Refusal}
+      → RunPost call m p (run_lent stack cells fs copy trace) x (run_lent stack' cells' fs' copy' trace')
       → {words' : List ℕ} → words' ≡ all_kept fs' words
       → Running call m fs before (Ran x) fs' (held p stack' cells' copy' trace' words')
   unfolding run_lent lent_in
-  running call stack' cells' fs' copy' trace' {x} el post ek = record { result = x; answer = refl; post = rw (← el) post; program = refl; words = ek }
+  running call stack' cells' fs' copy' trace' {x} post ek = record { result = x; answer = refl; post = post; program = refl; words = ek }
 
   -- a beginning is lent no backtrace store: this one is as any other
-  pub begin_called : (fs' : List Frame) (copy' : List ℕ) {x : Result Halt Refusal} {lent : Stores} → lent ≡ p
-      → ((backtrace : List ℕ) → RunPost begins m lent (run_lent stack cells fs copy backtrace) x (run_lent stack cells fs' copy' backtrace))
+  pub begin_called : (fs' : List Frame) (copy' : List ℕ) {x : Result Halt Refusal}
+      → ((backtrace : List ℕ) → RunPost begins m p (run_lent stack cells fs copy backtrace) x (run_lent stack cells fs' copy' backtrace))
       → {words' : List ℕ} → words' ≡ all_kept fs' words
       → Called m Begin image fs before (Ran x) fs' (held p stack cells copy' trace words')
   unfolding Called
-  begin_called fs' copy' el post ek = running begins stack cells fs' copy' trace el (post trace) ek
+  begin_called fs' copy' post ek = running begins stack cells fs' copy' trace (post trace) ek
 
-  pub continue_called : (units : ℕ) (stack' cells' : List ℕ) (fs' : List Frame) (trace' : List ℕ) {x : Result Halt Refusal} {lent : Stores} → lent ≡ p
-      → RunPost (continues units) m lent (run_lent stack cells fs copy trace) x (run_lent stack' cells' fs' copy trace')
+  pub continue_called : (units : ℕ) (stack' cells' : List ℕ) (fs' : List Frame) (trace' : List ℕ) {x : Result Halt Refusal}
+      → RunPost (continues units) m p (run_lent stack cells fs copy trace) x (run_lent stack' cells' fs' copy trace')
       → {words' : List ℕ} → words' ≡ all_kept fs' words
       → Called m (Continue units) image fs before (Ran x) fs' (held p stack' cells' copy trace' words')
   unfolding Called
-  continue_called units stack' cells' fs' trace' el post ek = running (continues units) stack' cells' fs' copy trace' el post ek
+  continue_called units stack' cells' fs' trace' post ek = running (continues units) stack' cells' fs' copy trace' post ek
 
-  pub abandon_called : (stack' : List ℕ) (fs' : List Frame) (trace' : List ℕ) {x : Result Halt Refusal} {lent : Stores} → lent ≡ p
-      → RunPost abandons m lent (run_lent stack cells fs copy trace) x (run_lent stack' cells fs' copy trace')
+  pub abandon_called : (stack' : List ℕ) (fs' : List Frame) (trace' : List ℕ) {x : Result Halt Refusal}
+      → RunPost abandons m p (run_lent stack cells fs copy trace) x (run_lent stack' cells fs' copy trace')
       → {words' : List ℕ} → words' ≡ all_kept fs' words
       → Called m Abandon image fs before (Ran x) fs' (held p stack' cells copy trace' words')
   unfolding Called
-  abandon_called stack' fs' trace' el post ek = running abandons stack' cells fs' copy trace' el post ek
+  abandon_called stack' fs' trace' post ek = running abandons stack' cells fs' copy trace' post ek
 
   pub trace_called : {trace' : List ℕ} {x : Result ℕ Refusal}
       → ((structs constants : List ℕ) → record { answer = x; out = trace' } ≡ backtrace_in m
@@ -83,8 +83,8 @@ module _ (m : Vm) (image : List ℕ) (p : Stores) (stack cells copy trace words 
   trace_called e = tracing (backtrace_in m p stack fs trace) fs before (e p.structs p.constants)
 
   -- no backtrace store is lent: this one is as any other
-  pub strict_called : (b : Bool) {x : Result Vm Refusal} {lent : Stores} → lent ≡ p
-      → ((backtrace : List ℕ) → x ≡ set_strict b m lent (run_lent stack cells fs copy backtrace))
+  pub strict_called : (b : Bool) {x : Result Vm Refusal}
+      → ((backtrace : List ℕ) → x ≡ set_strict b m p (run_lent stack cells fs copy backtrace))
       → Called m (Strict b) image fs before (Set x) fs before
   unfolding Called run_lent lent_in
-  strict_called b el e = record { answer = ap Set (rw (← el) (e trace)); same = refl; stores = refl }
+  strict_called b e = record { answer = ap Set (e trace); same = refl; stores = refl }

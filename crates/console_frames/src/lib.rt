@@ -2,13 +2,13 @@
 #![tactic(auto)]
 
 ghost use Rattle.std.specs.Prelude.{◌≡◌};
-ghost use Rattle.console_script.specs.Stored.{stored};
+ghost use Rattle.model.specs.Stores.{stores_of};
 ghost use Rattle.console_frames.specs.Resting.{all_laid, all_kept};
 ghost use Rattle.console_frames.specs.Calls.{held, Called, Bridged};
 
 use console_damage::{frame_in, put_frame};
-use console_script::stores::Program;
 use frames::read_frame;
+use layout::lent::ProgramStores;
 use model::{Frame, Halt, Refusal, Vm};
 
 // The frames that rest in words, as records.
@@ -51,12 +51,20 @@ pub enum Answer {
     Set(Result<Vm, Refusal>),
 }
 
-// The call, over frames that are laid before it and kept after it.
+// The call, over frames that are laid before it and kept after it. The program's stores are lent one by one, as slices: each may be of any length, and
+// Load writes them all.
 pub fn act(
     m: Vm,
     call: Call,
     image: &[u8],
-    program: &mut Program,
+    constants: &mut [u64],
+    structs: &mut [u64],
+    functions: &mut [u64],
+    text: &mut [u8],
+    main: &mut [u8],
+    main_places: &mut [u32],
+    other: &mut [u8],
+    other_places: &mut [u32],
     stack: &mut [u64],
     cells: &mut [u64],
     frames: &mut [Frame],
@@ -64,12 +72,23 @@ pub fn act(
     trace: &mut [u64],
     words: &mut [u64],
 ) -> Answer
-    ensures { Called m call image.now (all_laid words.old frames.old) (held (stored program.old) stack.old cells.old copy.old trace.old words.old) result frames.new (held (stored program.new) stack.new cells.new copy.new trace.new words.new) }
+    ensures { Called m call image.now (all_laid words.old frames.old) (held (stores_of constants.old structs.old functions.old text.old main.old main_places.old other.old other_places.old) stack.old cells.old copy.old trace.old words.old) result frames.new (held (stores_of constants.new structs.new functions.new text.new main.new main_places.new other.new other_places.new) stack.new cells.new copy.new trace.new words.new) }
 {
     lay(frames, words);
+    // The stores as one value, for the calls that read them: New and Load write them.
+    let program = ProgramStores {
+        constants,
+        structs,
+        functions,
+        text,
+        main,
+        main_places,
+        other,
+        other_places,
+    };
     match call {
         Call::New => {
-            let s = machine::new(m.run.on, &mut program.functions, &mut program.text, frames);
+            let s = machine::new(m.run.on, functions, text, frames);
             keep(frames, words);
             Answer::Made(s)
         }
@@ -77,63 +96,48 @@ pub fn act(
             let s = machine::load(
                 m.run.on,
                 image,
-                &mut program.constants,
-                &mut program.structs,
-                &mut program.functions,
-                &mut program.text,
-                &mut program.main,
-                &mut program.main_places,
-                &mut program.other,
-                &mut program.other_places,
+                constants,
+                structs,
+                functions,
+                text,
+                main,
+                main_places,
+                other,
+                other_places,
                 frames,
             );
             keep(frames, words);
             Answer::Made(s)
         }
         Call::Begin => {
-            let x = machine::begin(m, &program.lent(), stack, cells, frames, copy);
+            let x = machine::begin(m, &program, stack, cells, frames, copy);
             keep(frames, words);
             Answer::Ran(x)
         }
         Call::Continue(units) => {
-            let x = machine::continue_run(
-                m,
-                units,
-                &program.lent(),
-                stack,
-                cells,
-                frames,
-                copy,
-                trace,
-            );
+            let x = machine::continue_run(m, units, &program, stack, cells, frames, copy, trace);
             keep(frames, words);
             Answer::Ran(x)
         }
         Call::Abandon => {
-            let x = machine::abandon(m, &program.lent(), stack, cells, frames, copy, trace);
+            let x = machine::abandon(m, &program, stack, cells, frames, copy, trace);
             keep(frames, words);
             Answer::Ran(x)
         }
         Call::Trace => Answer::Traced(machine::backtrace(
             m,
-            &program.functions,
-            &program.text,
-            &program.main,
-            &program.main_places,
-            &program.other,
-            &program.other_places,
+            program.functions,
+            program.text,
+            program.main,
+            program.main_places,
+            program.other,
+            program.other_places,
             stack,
             frames,
             trace,
         )),
         Call::Strict(strict) => Answer::Set(machine::set_strict(
-            m,
-            strict,
-            &program.lent(),
-            stack,
-            cells,
-            frames,
-            copy,
+            m, strict, &program, stack, cells, frames, copy,
         )),
     }
 }
@@ -143,14 +147,21 @@ pub fn with_frames(
     m: Vm,
     call: Call,
     image: &[u8],
-    program: &mut Program,
+    constants: &mut [u64],
+    structs: &mut [u64],
+    functions: &mut [u64],
+    text: &mut [u8],
+    main: &mut [u8],
+    main_places: &mut [u32],
+    other: &mut [u8],
+    other_places: &mut [u32],
     stack: &mut [u64],
     cells: &mut [u64],
     copy: &mut [u64],
     trace: &mut [u64],
     words: &mut [u64],
 ) -> Answer
-    ensures { Bridged m call image.now (held (stored program.old) stack.old cells.old copy.old trace.old words.old) result (held (stored program.new) stack.new cells.new copy.new trace.new words.new) }
+    ensures { Bridged m call image.now (held (stores_of constants.old structs.old functions.old text.old main.old main_places.old other.old other_places.old) stack.old cells.old copy.old trace.old words.old) result (held (stores_of constants.new structs.new functions.new text.new main.new main_places.new other.new other_places.new) stack.new cells.new copy.new trace.new words.new) }
 {
     let none = Frame {
         function: 0,
@@ -163,7 +174,14 @@ pub fn with_frames(
         m,
         call,
         image,
-        program,
+        constants,
+        structs,
+        functions,
+        text,
+        main,
+        main_places,
+        other,
+        other_places,
         stack,
         cells,
         &mut frames,
