@@ -3,12 +3,14 @@ ghost use Rattle.std.specs.Prelude.{◌≡◌, ◌+◌, ◌*◌, ◌≤◌, leng
 ghost use Rattle.model.specs.Values.{put_words};
 ghost use Rattle.model.specs.Emission.{written};
 
-// The bytes from place at on. (The library says it by itself; proofs above cite this contract.)
+// The bytes from place at on. A loop, and no `copy_from_slice`: that is C's memmove, which an archive for C would then need from outside.
 pub fn put_bytes(s: &mut [u8], at: usize, bytes: &[u8])
     requires { at + length bytes.now ≤ length s.old }
     ensures { s.new ≡ written s.old at bytes.now }
 {
-    s[at..at + bytes.len()].copy_from_slice(bytes);
+    for i in 0..bytes.len() {
+        s[at + i] = bytes[i];
+    }
 }
 
 // One place of the source for each of n bytes. (The library says it by itself; proofs above cite this contract.)

@@ -12,6 +12,7 @@ use Rattle.model.specs.declared.Frame.{Frame}
 use Rattle.model.specs.Emission.{written}
 use Rattle.model.specs.Machines.{frame_room}
 use Rattle.value.specs.Links.{last_in, last_kind}
+use Rattle.layout.proofs.Writing.{Writing, another, whole}
 use Rattle.run_ends.specs.Links.{FixedPost, cut_frame}
 use Rattle.run_ends.proofs.Judging.{Room}
 use Rattle.std.specs.Prelude.{Option}
@@ -19,13 +20,12 @@ use Rattle.model.specs.declared.Value.{Value}
 
 -- ---- the first n words of one store at the front of another
 
-pub front_copied : (from to : List ℕ) (n : ℕ) {m : List ℕ} → 2 * n ≤ length from → 2 * n ≤ length to → m ≡ take (2 * n) from
-    → m ++ drop (2 * n) to ≡ written to 0 (take (2 * n) from)
-unfolding written
-front_copied from to n g h e =
-    let k : length (take (2 * n) from) ≡ 2 * n = length-take-le (2 * n) from g in
-    let z : 0 + length (take (2 * n) from) ≡ 2 * n = omega (arith, k) in
-    rw e (sym (sets-eq (take (2 * n) from) to 0 (omega (arith, k)) ∙ ap (λ (j : ℕ). take (2 * n) from ++ drop j to) z))
+module _ (from to : List ℕ) (n : ℕ) (g : n ≤ length from) {t : List ℕ} {i : ℕ} (h : Writing to 0 (take n from) t i) where
+  pub copies : i < n → Writing to 0 (take n from) (set t i (get_or from i 0)) (i + 1)
+  copies l = let z : 0 + i ≡ i = omega arith in rw z at (another h (get_or from i 0) (sym (get_or-take n from i 0 l)) (omega (arith, length-take-le n from g)))
+
+  pub copied : n ≤ i → t ≡ written to 0 (take n from)
+  copied l = whole h (omega (arith, length-take-le n from g))
 
 -- ---- what no step changes
 

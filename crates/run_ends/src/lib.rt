@@ -257,12 +257,14 @@ pub fn set_to(good: bool, m: Vm, strict: bool) -> Result<Vm, Refusal>
 
 // ---- copying, and the loop's start
 
-// The first n values of one store at the front of another: the starting stack is kept, and put back.
+// The first n values of one store at the front of another: the starting stack is kept, and put back. (As `put_bytes` of layout, a loop: no memmove.)
 pub fn copy_front(n: usize, from: &[u64], to: &mut [u64])
     requires { (2 * n ≤ length from.now) × (2 * n ≤ length to.old) }
     ensures { to.new ≡ written to.old 0 (take (2 * n) from.now) }
 {
-    to[..2 * n].copy_from_slice(&from[..2 * n]);
+    for i in 0..2 * n {
+        to[i] = from[i];
+    }
 }
 
 // What no step changes, in a run that was given this many units in all; stack and frames are the lengths of their stores.

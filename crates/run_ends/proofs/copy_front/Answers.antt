@@ -1,6 +1,14 @@
 -- `run_ends::copy_front` meets its contract.
-use Rattle.run_ends.proofs.Starting.{front_copied}
+use borrow.Author.Rules.{rules}
+use Rattle.layout.proofs.Writing.{nothing_yet}
+use Rattle.run_ends.proofs.Starting.{copies, copied}
 use Rattle.run_ends.proofs.copy_front.Goals as goal
 
+pub loop-i-init : goal.loop-i-init
+loop-i-init c = nothing_yet _ _ _
+
+pub loop-i-preserved : goal.loop-i-preserved
+loop-i-preserved c = search (rules, copies)
+
 pub returns : goal.returns
-returns c = front_copied _ _ _ c.requires.0 c.requires.1 c.copy_from_slice.ensures.after
+returns c = search (rules, copied)
