@@ -6,6 +6,8 @@ use Rattle.model.specs.Values.{places, value_at, vals}
 use Rattle.model.specs.Heap as heap
 use Rattle.model.specs.Heap.{Cell, item, heap_of, list_elements, struct_fields, build_of, placed_below, heap_ok, exact_cells}
 use Rattle.model.specs.Equality.{Same, same, said, same_pair}
+use Rattle.cells.specs.declared.Verdict.{Verdict}
+use Rattle.cells.specs.declared.Verdict.TheVariants.{Done, Out}
 use Rattle.cells.specs.declared.Pair.{Pair}
 use Rattle.cells.specs.declared.Pair.TheVariants.{Said, Blocks}
 use Rattle.model.specs.declared.Fault.{Fault}
@@ -72,6 +74,10 @@ pub record FieldPre (w : List ℕ) (used p : ℕ) : Type 0 where
   pub placed : placed_below texts (heap_of used w) used (v.StructInstance p) ≡ true
 
 -- ---- equality
+
+abbrev pub as_option : Verdict → Option (Bool × ℕ)
+as_option (Done alike l) = Some (alike, l)
+as_option Out = None
 
 -- with l units left: the answer and the units left then, or that they do not suffice
 unfoldable pub verdict : ℕ → Same → Option (Bool × ℕ)

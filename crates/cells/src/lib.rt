@@ -5,7 +5,7 @@ ghost use Rattle.std.specs.Prelude.{◌≡◌, false, ◌&&◌, ◌+◌, ◌*◌
 ghost use Rattle.model.specs.Values.{vals, text_at};
 ghost use Rattle.model.specs.Heap.{heap_of, depth_in, deepest, field_of, whole_below, placed_below, block_ok, heap_ok, exact_cells};
 ghost use Rattle.model.specs.Equality.{same_bytes, same_of};
-ghost use Rattle.cells.specs.Links.{elements_of, Held, TopPre, CopyPost, BuildPost, FieldPre, verdict, EqualPre, Inside, Compared};
+ghost use Rattle.cells.specs.Links.{elements_of, Held, TopPre, CopyPost, BuildPost, FieldPre, as_option, verdict, EqualPre, Inside, Compared};
 
 use layout::reads::{room, same_bytes};
 use model::{DEPTH_LIMIT, Fault, Header, Value};
@@ -163,7 +163,55 @@ fn compare(text: &[u8], a: Value, b: Value) -> Pair
     }
 }
 
+// Same or not, with the units left then; or that the units do not suffice. An Option of a pair would say the same, and take eight bytes more of the host's
+// stack, in a frame that is rounded up to sixteen, for each of up to 64 comparisons that stand one in the other.
+#[derive(Clone, Copy)]
+pub enum Verdict {
+    Done(bool, u64),
+    Out,
+}
+
 // Equality of two values. Each pair of elements that is visited costs a unit, and it stops where they do not suffice.
+fn weigh(text: &[u8], cells: &[u64], used: usize, a: Value, b: Value, left: u64) -> Verdict
+    requires { EqualPre text.now cells.now used a b }
+    ensures { as_option result ≡ verdict left (same_of text.now (heap_of used cells.now) a b) }
+{
+    match compare(text, a, b) {
+        Pair::Said(x) => Verdict::Done(x, left),
+        Pair::Blocks(p, q) => {
+            let first = p as usize;
+            let second = q as usize;
+            let h = words::read_header(cells, first);
+            let k = words::read_header(cells, second);
+            let count = h.count;
+            if count != k.count {
+                return Verdict::Done(false, left);
+            }
+            if h.number != k.number {
+                return Verdict::Done(false, left);
+            }
+            let mut rest = left;
+            for i in 0..count {
+                if rest == 0 {
+                    return Verdict::Out;
+                }
+                let next = rest - 1;
+                let x = words::read_value(cells, first + 1 + i);
+                let y = words::read_value(cells, second + 1 + i);
+                let Verdict::Done(alike, behind) = weigh(text, cells, used, x, y, next) else {
+                    return Verdict::Out;
+                };
+                if !alike {
+                    return Verdict::Done(false, behind);
+                }
+                rest = behind;
+            }
+            Verdict::Done(true, rest)
+        }
+    }
+}
+
+// Equality of two values, as `weigh` finds it: same or not, with the units left then, where they suffice.
 pub fn equal(
     text: &[u8],
     cells: &[u64],
@@ -175,36 +223,9 @@ pub fn equal(
     requires { EqualPre text.now cells.now used a b }
     ensures { result ≡ verdict left (same_of text.now (heap_of used cells.now) a b) }
 {
-    match compare(text, a, b) {
-        Pair::Said(x) => Some((x, left)),
-        Pair::Blocks(p, q) => {
-            let first = p as usize;
-            let second = q as usize;
-            let h = words::read_header(cells, first);
-            let k = words::read_header(cells, second);
-            let count = h.count;
-            if count != k.count {
-                return Some((false, left));
-            }
-            if h.number != k.number {
-                return Some((false, left));
-            }
-            let mut rest = left;
-            for i in 0..count {
-                if rest == 0 {
-                    return None;
-                }
-                let next = rest - 1;
-                let x = words::read_value(cells, first + 1 + i);
-                let y = words::read_value(cells, second + 1 + i);
-                let (alike, behind) = equal(text, cells, used, x, y, next)?;
-                if !alike {
-                    return Some((false, behind));
-                }
-                rest = behind;
-            }
-            Some((true, rest))
-        }
+    match weigh(text, cells, used, a, b, left) {
+        Verdict::Done(alike, behind) => Some((alike, behind)),
+        Verdict::Out => None,
     }
 }
 

@@ -1,10 +1,11 @@
--- `cells::equal` meets its contract.
-use mathlib.Core.Path.{refl, subst}
+-- `cells::weigh` meets its contract.
+use mathlib.Core.Path.{refl, subst, ap}
 use Prim.Native.Nat.{ℕ, ◌<◌}
 use native.Mathlib.Omega.{arith}
 use borrow.Author.Rules.{rules}
 use Rattle.cells.proofs.Turns.{rank, inside, room_p, room_q, counts_differ, numbers_differ, turn_start, no_units, room_x, room_y, falls as falls-in, asked, differs, ran_out, again, said_is, finish}
-use Rattle.cells.proofs.+equal.Goals as goal
+use Rattle.cells.specs.Links.{as_option}
+use Rattle.cells.proofs.+weigh.Goals as goal
 
 pub compare-requires : goal.compare-requires
 compare-requires t c = inside _ _ _ _ _ c.requires
@@ -61,8 +62,8 @@ read_value-y-requires t c =
     c.read_header-h.ensures c.read_header-k.ensures c.if-count-k.false c.if-h-k.false _ _ _
     c.loop-i.invariant c.loop-i-test.true
 
-pub equal-requires : goal.equal-requires
-equal-requires t c = (
+pub weigh-requires : goal.weigh-requires
+weigh-requires t c = (
   subst (λ (j : ℕ). rank c.read_value-x.result < j) c.decreases
       (falls-in _ _ _ _ _ c.requires _ c.compare.ensures _ _ c.in-Blocks.is _ _
       c.read_header-h.ensures c.read_header-k.ensures c.if-count-k.false c.if-h-k.false
@@ -79,25 +80,24 @@ returns-then-not-alike t c =
     differs _ _ _ _ _ c.requires _ c.compare.ensures _ _ c.in-Blocks.is _ _
     c.read_header-h.ensures c.read_header-k.ensures c.if-count-k.false c.if-h-k.false _ _ _
     c.loop-i.invariant c.loop-i-test.true _ _ c.read_value-x.ensures
-    c.read_value-y.ensures _ refl c.if-rest-eq0.false _ c.equal.ensures _ _
-    c.in_ok-alike-in-Blocks.was (search rules)
+    c.read_value-y.ensures _ refl c.if-rest-eq0.false _ c.weigh.ensures _ _
+    (ap as_option c.in-Done.is) (search rules)
 
-pub returns-in_err-alike-in-Blocks : goal.returns-in_err-alike-in-Blocks
-returns-in_err-alike-in-Blocks t c =
-    rw c.from_residual.ensures
-    (ran_out _ _ _ _ _ c.requires _ c.compare.ensures _ _ c.in-Blocks.is _ _
+pub returns-in_default : goal.returns-in_default
+returns-in_default t c =
+    ran_out _ _ _ _ _ c.requires _ c.compare.ensures _ _ c.in-Blocks.is _ _
     c.read_header-h.ensures c.read_header-k.ensures c.if-count-k.false c.if-h-k.false _ _ _
     c.loop-i.invariant c.loop-i-test.true _ _ c.read_value-x.ensures
-    c.read_value-y.ensures _ refl c.if-rest-eq0.false _ c.equal.ensures
-    c.in_err-alike-in-Blocks.was)
+    c.read_value-y.ensures _ refl c.if-rest-eq0.false _ c.weigh.ensures
+    (ap as_option c.in_default.is)
 
 pub loop-i-preserved : goal.loop-i-preserved
 loop-i-preserved t c =
     again _ _ _ _ _ c.requires _ c.compare.ensures _ _ c.in-Blocks.is _ _
     c.read_header-h.ensures c.read_header-k.ensures c.if-count-k.false c.if-h-k.false _ _ _
     c.loop-i.invariant c.loop-i-test.true _ _ c.read_value-x.ensures
-    c.read_value-y.ensures _ refl c.if-rest-eq0.false _ c.equal.ensures _ _
-    c.in_ok-alike-in-Blocks.was (search rules)
+    c.read_value-y.ensures _ refl c.if-rest-eq0.false _ c.weigh.ensures _ _
+    (ap as_option c.in-Done.is) (search rules)
 
 pub returns-in-Said : goal.returns-in-Said
 returns-in-Said t c = search (rules, said_is)

@@ -1,10 +1,10 @@
--- `cells::equal` meets its contract.
+-- `cells::weigh` meets its contract.
 use Rattle.model.specs.Heap.{heap_of}
 use Rattle.cells.proofs.Turns.{rank, Turn}
-use Rattle.cells.proofs.+equal.Given as goal
+use Rattle.cells.proofs.+weigh.Given as goal
 
-abbrev pub decreases-equal : goal.decreases-equal
-decreases-equal l = rank l.a
+abbrev pub decreases-weigh : goal.decreases-weigh
+decreases-weigh l = rank l.a
 
 abbrev pub invariant-loop-i : goal.invariant-loop-i
 invariant-loop-i l =
