@@ -3,10 +3,12 @@ use mathlib.Core.Path.{◌≡◌, refl, sym, ◌∙◌}
 use mathlib.Core.Bool.{Bool, true, false, true≢false}
 use mathlib.Core.List.{List, [], ◌∷◌}
 use mathlib.Mathlib.Data.Bool.Basic.{and_elim_left as and_left, and_elim_right as and_right}
-use Prim.Native.Nat.{ℕ, ◌≤◌, ◌<◌}
+use Prim.Native.Nat.{ℕ, ◌+◌, ◌≤◌, ◌<◌}
 use native.Mathlib.Omega.{arith}
-use native.Mathlib.Numerals.{lt_of_le_of_ne}
+use native.Mathlib.Numerals.{lt_of_le_of_ne, add-one}
 use lib.Dec.{eqb, ltb}
+use lib.ListN.{length, get_or, drop, drop_of_length-le}
+use lib.Seq.{drop-cons}
 use borrow.Author.Tests.{ltb-true, ltb-false, lt-ltb, le-ltb, eqb-true, eqb-false, eq-eqb, ne_eqb}
 use Rattle.model.specs.Equality.{same_bytes}
 use Rattle.model.specs.Programs.{before}
@@ -107,3 +109,45 @@ one_before (x ∷ a) (y ∷ b) e f =
     (λ xy. apart _ (by_less x y a b xy) e)
     (λ xy. by_rest y x b a (sym xy) ∙ one_before a b (sym (by_rest x y a b xy) ∙ e) (rw (eq-eqb x y xy) at f))
     (λ yx. by_less y x b a yx)
+
+-- ---- a loop that compares byte after byte: the first i are the same, and the rest decides
+
+pub record Comparing (a b : List ℕ) (i : ℕ) : Type 0 where
+  pub in_first : i ≤ length a
+  pub in_second : i ≤ length b
+  pub means : before a b ≡ before (drop i a) (drop i b)
+
+pub comparing_start : (a b : List ℕ) → Comparing a b 0
+comparing_start a b = record { in_first = omega arith; in_second = omega arith; means = refl }
+
+module _ (a b : List ℕ) (i : ℕ) (h : Comparing a b i) where
+  -- the second ends first
+  pub second_ends : i < length a → length b ≤ i → false ≡ before a b
+  unfolding before
+  second_ends l m = let e : drop i b ≡ [] = drop_of_length-le b m in sym (h.means ∙ rw (drop-cons a i 0 l, e))
+
+  -- the first has ended
+  pub first_ends : length a ≤ i → ltb (length a) (length b) ≡ before a b
+  unfolding before
+  first_ends l =
+      let k = h.in_first in let z : i ≡ length a = omega arith in
+      let e : drop i a ≡ [] = drop_of_length-le a l in
+      sym (h.means ∙ rw e (either_way (ltb (length a) (length b))
+      (λ t. let g : i < length b = (let q = ltb-true (length a) (length b) t in omega arith) in rw (drop-cons b i 0 g, t))
+      (λ f. let g : length b ≤ i = (let q = ltb-false (length a) (length b) f in omega arith) in let d : drop i b ≡ [] = drop_of_length-le b g in rw (d, f))))
+
+  module _ (l : i < length a) (m : i < length b) where
+    pub differ_here : (get_or a i 0 ≡ get_or b i 0 → ⊥) → ltb (get_or a i 0) (get_or b i 0) ≡ before a b
+    differ_here d =
+        sym (h.means ∙ rw (drop-cons a i 0 l, drop-cons b i 0 m)
+        (by_first (get_or a i 0) (get_or b i 0) [] []
+        (λ x. by_less _ _ _ _ x ∙ sym (lt-ltb _ _ x))
+        (λ e. absurd (d e))
+        (λ x. let y : get_or b i 0 ≤ get_or a i 0 = omega arith in by_more _ _ _ _ x ∙ sym (le-ltb _ _ y))))
+
+    pub agree_here : get_or a i 0 ≡ get_or b i 0 → Comparing a b (i + 1)
+    agree_here e = record {
+      in_first = omega arith;
+      in_second = omega arith;
+      means = h.means ∙ rw (drop-cons a i 0 l, drop-cons b i 0 m, add-one i) (by_rest _ _ _ _ e);
+    }

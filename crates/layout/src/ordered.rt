@@ -9,12 +9,20 @@ ghost use Rattle.laws_names.specs.Sorted.{Edge, moved_up, struct_put};
 use crate::reads::{first, index, part, same_bytes, second};
 use std::mem::swap;
 
-// Whether one name stands before another: it is less at the first difference, or ends there. (The library says it by itself; this
-// contract says it in the words in which the order of struct names is defined.)
+// Whether one name stands before another: it is less at the first difference, or ends there. (A loop: the library's `<` says the same, and takes half as
+// long again on names of every length, in all that searches names.)
 pub fn before(a: &[u8], b: &[u8]) -> bool
     ensures { result ≡ before a.now b.now }
 {
-    a < b
+    for i in 0..a.len() {
+        if b.len() <= i {
+            return false;
+        }
+        if a[i] != b[i] {
+            return a[i] < b[i];
+        }
+    }
+    a.len() < b.len()
 }
 
 // The word of the name that stands at i in the order of names.

@@ -1,12 +1,19 @@
 -- `layout::ordered::before` meets its contract.
-use mathlib.Core.Path.{refl}
-use Rattle.std.specs.Ordering.{nat_cmp, is_lt}
-use Rattle.std.proofs.Common.{arith}
-use Rattle.std.proofs.lemmas.Bool.Decides.{nat_tests}
-use Rattle.std.proofs.lemmas.Cmp.{same_from_slice_cmp_tested}
-use Rattle.model.specs.Programs.{before}
+use Rattle.laws_names.proofs.Before.{comparing_start, second_ends, first_ends, differ_here, agree_here}
+use Rattle.std.proofs.Common.{rules}
 use Rattle.layout.proofs.ordered.before.Goals as goal
 
+pub loop-i-init : goal.loop-i-init
+loop-i-init c = comparing_start _ _
+
+pub returns-then-b-i : goal.returns-then-b-i
+returns-then-b-i c = search (rules, second_ends)
+
+pub returns-then-a-i : goal.returns-then-a-i
+returns-then-a-i c = search (rules, differ_here)
+
+pub loop-i-preserved : goal.loop-i-preserved
+loop-i-preserved c = search (rules, agree_here)
+
 pub returns : goal.returns
-unfolding before
-returns c = same_from_slice_cmp_tested nat_cmp is_lt before refl (λ _ _. refl) (λ _ _. refl) (λ x y xs ys o h. grind (arith, nat_tests)) c.args.a.now c.args.b.now c.lt.result c.lt.ensures
+returns c = search (rules, first_ends)
