@@ -9,8 +9,8 @@ ghost use Rattle.laws_names.specs.Sorted.{Edge, moved_up, struct_put};
 use crate::reads::{first, index, part, same_bytes, second};
 use std::mem::swap;
 
-// Whether one name stands before another: it is less at the first difference, or ends there. (A loop: the library's `<` says the same, and takes half as
-// long again on names of every length, in all that searches names.)
+// Whether one name stands before another: it is less at the first difference, or ends there. (A loop: the library's `<` says the same, and with
+// it many struct names took half as long again to load.)
 pub fn before(a: &[u8], b: &[u8]) -> bool
     ensures { result ≡ before a.now b.now }
 {
