@@ -8,11 +8,7 @@ use report::run_image;
 use std::io;
 
 // Reads an image and prints its report; of one that could not be read, nothing. It answers how many bytes were read.
-fn show(
-    rt: &(impl io::Input + Print + Eprint),
-    image: &mut [u8],
-    out: &mut [u8],
-) -> Option<usize>
+fn show(rt: &(impl io::Input + Print + Eprint), image: &mut [u8], out: &mut [u8]) -> Option<usize>
     ensures shown { Shown Says image.new out.old out.new }
     ensures answered { Answered Says result image.new out.old out.new }
 {
