@@ -10,13 +10,13 @@ ghost use Rattle.model.specs.Loading.{save_of};
 use layout::lent::ProgramStores;
 use layout::reads::room;
 use model::{Counts, Refusal};
-use program::order::program_ok;
+use program::order::stores_ok;
 
 // Saves the program: good order first, then the size, then it is written.
 pub fn save(c: Counts, stores: &ProgramStores, out: &mut [u8]) -> Result<usize, Refusal>
     ensures { record { answer = result; out = out.new } ≡ save_of c (stores_in stores.now) out.old }
 {
-    let ok = program_ok(c, stores);
+    let ok = stores_ok(c, stores);
     if !ok {
         return Err(Refusal::NotInOrder);
     }

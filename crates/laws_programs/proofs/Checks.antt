@@ -18,6 +18,7 @@ use Rattle.layout.proofs.Names.{name_here}
 use Rattle.model.specs.Orders.{counts_ok, text_ok, inside_text, constant_ok, constants_ok, name_in_order, structs_ok, code_start, function_ok, functions_ok, main_ok, main_taken, other_taken, inside_codes, program_ok}
 use Rattle.layout.specs.declared.lent.ProgramStores.{ProgramStores}
 use Rattle.layout.specs.Lent.{program_lent, stores_in}
+use Rattle.layout.specs.Links.{WholeIs}
 
 pub counts_is : (c : Counts) (last : Bool) → last ≡ eqb (suc c.current) c.functions
     → (leb c.constants 65535 && leb c.structs 65536 && leb 1 c.functions && leb c.functions 65536 && leb c.text 0xFFFF_FFFF && (eqb c.current 0 || last)) ≡ counts_ok c
@@ -104,12 +105,21 @@ unfolding inside_codes main_taken other_taken
 codes_is c fs a b m o ea eb main other em eo = rw (ea, eb, em, eo)
 
 -- the whole, clause by clause
-pub whole_is : (c : Counts) (p : ProgramStores) (b1 b2 b3 b4 b5 b6 b7 b8 : Bool)
-    → b1 ≡ counts_ok c → b2 ≡ text_ok c p.text.now → b3 ≡ constants_ok c p.constants.now → b4 ≡ structs_ok c p.structs.now p.text.now
-    → b5 ≡ functions_ok c p.functions.now → b6 ≡ main_ok p.functions.now p.text.now
-    → ((x y : List ℕ) → length x ≡ length p.main.now → length y ≡ length p.other.now → b7 ≡ inside_codes c p.functions.now x y)
-    → ((x y : List ℕ) → length x ≡ length p.main_places.now → length y ≡ length p.other_places.now → b8 ≡ inside_codes c p.functions.now x y)
-    → (b1 && b2 && b3 && b4 && b5 && b6 && b7 && b8) ≡ program_ok c (stores_in p)
-unfolding program_ok program_lent
-whole_is c p b1 b2 b3 b4 b5 b6 b7 b8 e1 e2 e3 e4 e5 e6 e7 e8 =
-    rw (e1, e2, e3, e4, e5, e6, e7 p.main.now p.other.now refl refl, e8 p.main_places.now p.other_places.now refl refl)
+pub whole_is : (c : Counts) (cs ss fs t : List ℕ) (m mp o op : ℕ) (b1 b2 b3 b4 b5 b6 b7 b8 : Bool)
+    → b1 ≡ counts_ok c → b2 ≡ text_ok c t → b3 ≡ constants_ok c cs → b4 ≡ structs_ok c ss t → b5 ≡ functions_ok c fs → b6 ≡ main_ok fs t
+    → ((x y : List ℕ) → length x ≡ m → length y ≡ o → b7 ≡ inside_codes c fs x y)
+    → ((x y : List ℕ) → length x ≡ mp → length y ≡ op → b8 ≡ inside_codes c fs x y)
+    → WholeIs c cs ss fs t m mp o op (b1 && b2 && b3 && b4 && b5 && b6 && b7 && b8)
+unfolding program_ok
+whole_is c cs ss fs t m mp o op b1 b2 b3 b4 b5 b6 b7 b8 e1 e2 e3 e4 e5 e6 e7 e8 = record {
+  is = λ s q1 q2 q3 q4 q5 q6 q7 q8.
+      rw (e1, e2, e3, e4, e5, e6, ← q1, ← q2, ← q3, ← q4) (rw (rw (← q3) at (e7 s.main s.other q5 q7), rw (← q3) at (e8 s.main_places s.other_places q6 q8)));
+}
+
+-- and of stores that are lent
+pub stores_are : (c : Counts) (p : ProgramStores) {r : Bool}
+    → WholeIs c p.constants.now p.structs.now p.functions.now p.text.now
+    (length p.main.now) (length p.main_places.now) (length p.other.now) (length p.other_places.now) r
+    → r ≡ program_ok c (stores_in p)
+unfolding program_lent
+stores_are c p whole = whole.is (stores_in p) refl refl refl refl refl refl refl refl

@@ -1,4 +1,4 @@
--- The stores that an entry is lent, over any rest; and the one fact of an entry.
+-- The stores that an entry is lent, over any rest; the one fact of an entry; and the good order of a whole program.
 use Rattle.std.specs.Prelude.{◌≡◌, Bool, List, ℕ, length, Result}
 use Rattle.model.specs.declared.Counts.{Counts}
 use Rattle.model.specs.Stores.{Stores}
@@ -65,3 +65,9 @@ structs_lent rest ss t = record {
   other = rest.other;
   other_places = rest.other_places;
 }
+
+-- the good order of a whole program: whatever the code and place stores hold, which are of these lengths
+pub record WholeIs (c : Counts) (cs ss fs t : List ℕ) (main main_places other other_places : ℕ) (r : Bool) : Type 0 where
+  pub is : (s : Stores) → s.constants ≡ cs → s.structs ≡ ss → s.functions ≡ fs → s.text ≡ t
+      → length s.main ≡ main → length s.main_places ≡ main_places → length s.other ≡ other → length s.other_places ≡ other_places
+      → r ≡ program_ok c s

@@ -12,14 +12,14 @@ use crate::functions::write_noted_all;
 use layout::lent::ProgramStores;
 use layout::reads::room;
 use model::{Counts, Refusal};
-use program::order::program_ok;
+use program::order::stores_ok;
 
 // The listing of a program with notes, into out, and how long it is. It is judged and measured first, with no room to write into, so that a
 // refusal writes nothing.
 pub fn list_with_notes(c: Counts, stores: &ProgramStores, out: &mut [u8]) -> Result<usize, Refusal>
     ensures { record { answer = result; out = out.new } ≡ notes_of c (stores_in stores.now) out.old }
 {
-    let ok = program_ok(c, stores);
+    let ok = stores_ok(c, stores);
     if !ok {
         return Err(Refusal::NotInOrder);
     }

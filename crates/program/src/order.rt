@@ -6,6 +6,7 @@ ghost use Rattle.model.specs.Stores.{struct_word, order_word};
 ghost use Rattle.model.specs.Programs.{before};
 ghost use Rattle.model.specs.Orders.{counts_ok, text_ok, inside_text, constant_ok, constants_ok, name_in_order, structs_ok, function_ok, functions_ok, main_ok, inside_codes, program_ok};
 ghost use Rattle.layout.specs.Lent.{stores_in};
+ghost use Rattle.layout.specs.Links.{WholeIs};
 
 use layout::lent::ProgramStores;
 use layout::ordered::{before, in_order};
@@ -136,21 +137,43 @@ pub fn inside_codes(c: Counts, functions: &[u64], main: usize, other: usize) -> 
         & (code_start(functions, c.functions) <= room(other, 1))
 }
 
-// A whole program.
-pub fn program_ok(c: Counts, stores: &ProgramStores) -> bool
-    ensures { result ≡ program_ok c (stores_in stores.now) }
+// A whole program, over code and place stores of these lengths.
+pub fn program_ok(
+    c: Counts,
+    constants: &[u64],
+    structs: &[u64],
+    functions: &[u64],
+    text: &[u8],
+    main: usize,
+    main_places: usize,
+    other: usize,
+    other_places: usize,
+) -> bool
+    ensures { WholeIs c constants.now structs.now functions.now text.now main main_places other other_places result }
 {
     counts_ok(c)
-        & text_ok(c, stores.text)
-        & constants_ok(c, stores.constants)
-        & structs_ok(c, stores.structs, stores.text)
-        & functions_ok(c, stores.functions)
-        & main_ok(stores.functions, stores.text)
-        & inside_codes(c, stores.functions, stores.main.len(), stores.other.len())
-        & inside_codes(
-            c,
-            stores.functions,
-            stores.main_places.len(),
-            stores.other_places.len(),
-        )
+        & text_ok(c, text)
+        & constants_ok(c, constants)
+        & structs_ok(c, structs, text)
+        & functions_ok(c, functions)
+        & main_ok(functions, text)
+        & inside_codes(c, functions, main, other)
+        & inside_codes(c, functions, main_places, other_places)
+}
+
+// A whole program in lent stores.
+pub fn stores_ok(c: Counts, stores: &ProgramStores) -> bool
+    ensures { result ≡ program_ok c (stores_in stores.now) }
+{
+    program_ok(
+        c,
+        stores.constants,
+        stores.structs,
+        stores.functions,
+        stores.text,
+        stores.main.len(),
+        stores.main_places.len(),
+        stores.other.len(),
+        stores.other_places.len(),
+    )
 }

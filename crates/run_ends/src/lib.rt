@@ -17,7 +17,7 @@ use cells::{good_cells, placed};
 use layout::lent::ProgramStores;
 use layout::reads::{first, lesser, room, second, size_of};
 use model::{Counts, Frame, Halt, MOST_PLACES, Refusal, Run, Tally, Value, Vm};
-use program::order::program_ok;
+use program::order::stores_ok;
 use run_arms::{Fixed, Going};
 use value::words::{exact_value, last_in, last_kind, last_payload, value_of};
 
@@ -117,7 +117,7 @@ pub fn judge(m: Vm, stores: &ProgramStores, stack: &[u64], cells: &[u64]) -> boo
     ensures { result ≡ rest_order m (stores_in stores.now) stack.now cells.now }
 {
     let c = m.program;
-    program_ok(c, stores) && values_ok(c.text, m.cells, cells, m.stack, stack, m.last)
+    stores_ok(c, stores) && values_ok(c.text, m.cells, cells, m.stack, stack, m.last)
 }
 
 // A machine with no run under way has one form of it.
