@@ -27,7 +27,7 @@ use Rattle.image_load.proofs.Loads.{room_of_lem}
 use Rattle.check_rules.specs.Checks as k
 use Rattle.check_rules.specs.Checks.{CheckAs}
 use Rattle.embed_words.specs.Coding.{Coded, under_way, out_refusal}
-use Rattle.check_words.specs.Words.{checked_coded, has_places, has_room, CheckIdle, not_an_image, no_place_lem, past_a_limit, no_room, breaks, passes}
+use Rattle.check_words.specs.Words.{checked_coded, checked_told, rejected_told, has_places, has_room, CheckIdle, not_an_image, no_place_lem, past_a_limit, no_room, breaks, passes}
 use Rattle.check_words.specs.Words.{CheckThrough, under_way_lem, idle, frames_after, CheckBeside}
 use Rattle.check_words.proofs.Judged.{an_image_has_main}
 use Rattle.model.specs.declared.Counts.{Counts}
@@ -71,7 +71,7 @@ module _ (image w a heights : List ℕ) (s : Stores) (fs : List Frame) where
   -- everything is lent
   whole : long w a ≡ true → leb 1 (length fs) ≡ true → {x : Result Counts Rejected} {hs : List ℕ} {t : Stores} → CheckAs image heights s x hs t
       → CheckIdle image w a heights s fs (checked_coded x w a) hs t (frames_after (checked_coded x w a).number fs)
-  unfolding checked_coded frames_after
+  unfolding checked_told rejected_told frames_after
   whole e f (k.not_an_image j) = not_an_image j
   whole e f (k.no_place_lem {p} j l) = no_place_lem j (has_few p w a heights e l)
   whole e f (k.past_a_limit {p} j m b) = past_a_limit j (has_places_lem p w a heights e m) b
@@ -90,7 +90,7 @@ module _ (image w a heights : List ℕ) (s : Stores) (fs : List Frame) where
 
   -- no place for a height is lent
   placeless : long w a ≡ false → {t₀ : Stores} {x : Result Counts Rejected} {hs : List ℕ} {t : Stores} → CheckAs image [] t₀ x hs t → Refuses [] t₀ x hs t
-  unfolding checked_coded frames_after places
+  unfolding checked_told rejected_told frames_after places
   placeless e (k.not_an_image j) = record { through = not_an_image j; heights_kept = refl; stores_kept = refl }
   placeless e (k.no_place_lem {p} j l) = record { through = no_place_lem j (has_none p w a heights e); heights_kept = refl; stores_kept = refl }
   placeless e (k.past_a_limit j m b) = absurd (let z : ⊥ = omega (arith, main_of_lem j, m) in z)
@@ -107,7 +107,7 @@ module _ (image w a heights : List ℕ) (s : Stores) (fs : List Frame) where
 
   frameless : long w a ≡ true → leb 1 (length fs) ≡ false → {t₀ : Stores} → t₀.functions ≡ [] → {x : Result Counts Rejected} {hs : List ℕ} {t : Stores}
       → CheckAs image heights t₀ x hs t → Refuses heights t₀ x hs t
-  unfolding checked_coded frames_after
+  unfolding checked_told rejected_told frames_after
   frameless e f n (k.not_an_image j) = record { through = not_an_image j; heights_kept = refl; stores_kept = refl }
   frameless e f n (k.no_place_lem {p} j l) = record { through = no_place_lem j (has_few p w a heights e l); heights_kept = refl; stores_kept = refl }
   frameless e f n (k.past_a_limit {p} j m b) = record { through = past_a_limit j (has_places_lem p w a heights e m) b; heights_kept = refl; stores_kept = refl }

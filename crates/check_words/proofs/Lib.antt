@@ -1,4 +1,3 @@
-pub mod Answers
 pub mod Judged
 pub mod Crossing
 pub mod One

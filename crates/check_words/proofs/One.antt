@@ -19,7 +19,7 @@ use Rattle.check_rules.specs.Checks as k
 use Rattle.check_rules.specs.Checks.{CheckAs}
 use Rattle.check_rules.proofs.One.{check_one}
 use Rattle.embed_words.specs.Coding.{Coded}
-use Rattle.check_words.specs.Words.{checked_coded, has_places, has_room, CheckIdle, not_an_image, no_place_lem, past_a_limit, no_room, breaks, passes, CheckThrough, under_way_lem, idle, frames_after}
+use Rattle.check_words.specs.Words.{checked_coded, checked_told, rejected_told, has_places, has_room, CheckIdle, not_an_image, no_place_lem, past_a_limit, no_room, breaks, passes, CheckThrough, under_way_lem, idle, frames_after}
 use Rattle.check_words.proofs.Judged.{an_image_has_main}
 use Rattle.check_words.proofs.Crossing.{long, roomless}
 use Rattle.model.specs.declared.Counts.{Counts}
@@ -88,7 +88,7 @@ module _ (image w a heights : List ℕ) (s : Stores) (fs : List Frame) where
 
   seen : (b f : Bool) → long w a ≡ b → leb 1 (length fs) ≡ f → {c : Coded} {hs : List ℕ} {t : Stores} {gs : List Frame}
       → CheckIdle image w a heights s fs c hs t gs → Seen b f c hs t gs
-  unfolding checked_coded frames_after
+  unfolding checked_told rejected_told frames_after
   seen b f e g (not_an_image j) = refuses (k.not_an_image j) refl refl
   seen true f e g (no_place_lem {p} j m) = refuses (k.no_place_lem j (few p e m)) refl refl
   seen false f e g (no_place_lem {p} j m) = refuses (k.no_place_lem j (none p j)) refl refl

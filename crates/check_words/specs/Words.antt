@@ -1,7 +1,7 @@
 -- [check] The check of an image as an entry for a host in C: what it answers, in words, and what then stands in every slice that the host lent.
 -- "Refusals: 40 with the first broken rule in the order given and the lowest function that breaks it .., after 20, 17, 22 and 21"; what passes is loaded, and
 -- so "25 first"
-use Rattle.std.specs.Prelude.{◌≡◌, Bool, true, false, ◌&&◌, List, [], ◌∷◌, ℕ, eqb, leb, length, set, if◌then◌else◌, Err, Ok, Result}
+use Rattle.std.specs.Prelude.{◌≡◌, Bool, true, false, ◌&&◌, List, [], ◌∷◌, ℕ, eqb, leb, length, set, if◌then◌else◌, Err, Ok, Option, Result}
 use Rattle.model.specs.declared.Frame.{Frame}
 use Rattle.model.specs.Answers.{refusal_number}
 use Rattle.model.specs.Basics.{written}
@@ -15,10 +15,10 @@ use Rattle.model.specs.Machines.{fresh}
 use Rattle.check_rules.specs.declared.Rule.{Rule}
 use Rattle.check_rules.specs.Rules.{Passed, Broken, rule_number}
 use Rattle.check_rules.specs.Checks.{HeightsOf}
-use Rattle.embed_words.specs.Coding.{Coded, refused, vm_words, under_way}
+use Rattle.embed_words.specs.Coding.{Coded, refused, refused_at, broken_at, vm_words, under_way}
 use Rattle.model.specs.declared.Counts.{Counts}
 use Rattle.check_rules.specs.declared.Rejected.{Rejected}
-use Rattle.model.specs.declared.Refusal.TheVariants as why
+use Rattle.model.specs.declared.Refusal.{Refusal}
 use Rattle.check_rules.specs.declared.Rejected.TheVariants as no
 
 -- ---- an answer in words. w is the record's slice, a the answer's
@@ -31,12 +31,23 @@ told n words w a = record { number = n; vm = w; answer = written a 0 words }
 abbrev pub made : Program → (w a : List ℕ) → Coded
 made p w a = record { number = 0; vm = written w 0 (vm_words (fresh (counts_for p))); answer = a }
 
--- 20 tells the offset of the item, 40 the rule, 1 to 6, and the function
-unfoldable pub checked_coded : Result Counts Rejected → (w a : List ℕ) → Coded
-checked_coded (Ok k) w a = record { number = 0; vm = written w 0 (vm_words (fresh k)); answer = a }
-checked_coded (Err (no.Refused (why.BrokenImage i))) w a = told 20 (i ∷ []) w a
-checked_coded (Err (no.Refused e)) w a = refused (refusal_number e) w a
-checked_coded (Err (no.Breaks q f)) w a = told 40 (rule_number q ∷ f ∷ []) w a
+-- what is wrong: a rule that is broken, by which function, or another refusal
+abbrev pub breach_in : Rejected → Result (Rule × ℕ) Refusal
+breach_in (no.Refused e) = Err e
+breach_in (no.Breaks q f) = Ok (q, f)
+
+-- 20 tells the offset of the item, 40 the rule, 1 to 6, and the function; E is any refusal that has a number
+unfoldable pub rejected_told : {E : Type 0} → (number : E → ℕ) → (offset : E → Option ℕ) → Result (Rule × ℕ) E → (w a : List ℕ) → Coded
+rejected_told number offset (Ok (q, f)) w a = told 40 (rule_number q ∷ f ∷ []) w a
+rejected_told number offset (Err e) w a = refused_at (offset e) (number e) w a
+
+unfoldable pub checked_told : {R E : Type 0} → (breach : R → Result (Rule × ℕ) E) → (number : E → ℕ) → (offset : E → Option ℕ) → Result Counts R → (w a : List ℕ) → Coded
+checked_told breach number offset (Ok k) w a = record { number = 0; vm = written w 0 (vm_words (fresh k)); answer = a }
+checked_told breach number offset (Err r) w a = rejected_told number offset (breach r) w a
+
+-- and of the check's own answer
+abbrev pub checked_coded : Result Counts Rejected → (w a : List ℕ) → Coded
+checked_coded = checked_told breach_in refusal_number broken_at
 
 -- ---- the entry
 

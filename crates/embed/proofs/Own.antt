@@ -16,7 +16,7 @@ use Rattle.model.specs.Loading.{OutRes, load_of}
 use Rattle.model.specs.Runs.{Entry, trace, untraced, trace_of, traceable, backtrace_of, Part}
 use Rattle.model.specs.Machines.{Lent, run_order, copy_short, trace_short, Unchanged, RunAnswer, ran, refused as not_run, begins, continues, abandons, begin_answer, continue_answer, abandon_answer, run_answer, refusal_of}
 use Rattle.model.specs.Machines.{trace_order, put_trace, innermost, callers_in, backtrace_in, start_with, unless_running, load_machine_of, as_loaded, new_machine_of}
-use Rattle.embed_words.specs.Coding.{at_entry, among, Coded, unmade}
+use Rattle.embed_words.specs.Coding.{at_entry, among, Coded, unmade, unmade_told}
 use Rattle.laws_embed.proofs.Says.{Says, late_says, says_itself}
 use Rattle.model.specs.declared.Counts.{Counts}
 use Rattle.model.specs.declared.Refusal.{Refusal}
@@ -93,7 +93,7 @@ module _ (m : Vm) (s : Stores) (l : Lent) where
 
 new_by : (fits : Bool) (c : Counts) (n : ℕ) (s' s : Stores) (rs : List Frame) (k : ℕ) (w a : List ℕ)
     → (let x : Res = if fits then done c n s' else refuse why.StoreFull s in record { number = k; vm = w; answer = a } ≡ unmade k (start_with (as_loaded x.answer) x.stores s rs).answer w a)
-unfolding unmade start_with as_loaded
+unfolding unmade_told start_with as_loaded
 new_by true c n s' s [] k w a = refl
 new_by true c n s' s (r ∷ rs) k w a = refl
 new_by false c n s' s rs k w a = refl
@@ -105,7 +105,7 @@ new_unmade s rs k w a = new_by _ _ _ _ s rs k w a
 
 loaded_unmade : (x : Result Counts Refusal) (s' s : Stores) (rs : List Frame) (k : ℕ) (w a : List ℕ)
     → unmade k (start_with x s' s []).answer w a ≡ unmade k (start_with x s' s rs).answer w a
-unfolding unmade start_with
+unfolding unmade_told start_with
 loaded_unmade (Ok c) s' s [] k w a = refl
 loaded_unmade (Ok c) s' s (r ∷ rs) k w a = refl
 loaded_unmade (Err e) s' s rs k w a = refl

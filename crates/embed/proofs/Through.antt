@@ -12,7 +12,7 @@ use Rattle.model.specs.declared.Frame.{Frame}
 use Rattle.model.specs.Answers.{refusal_number}
 use Rattle.model.specs.Stores.{Stores}
 use Rattle.model.specs.Machines.{Lent, RunCall, run_answer, RunPost, StartRes, refusal_of}
-use Rattle.embed_words.specs.Coding.{vm_in, record_ok, slices_refusal, out_refusal, at_entry, among, crossed, Coded, run_coded, started_coded, changed_coded, through, unmade}
+use Rattle.embed_words.specs.Coding.{vm_in, record_ok, slices_refusal, out_refusal, at_entry, among, crossed, Coded, run_coded, run_told, started_coded, changed_coded, through, unmade}
 use Rattle.embed_words.specs.Coding.{RunThrough, start_through}
 use Rattle.laws_embed.proofs.Says.{Says}
 use Rattle.model.specs.declared.Halt.{Halt}
@@ -59,7 +59,7 @@ module _ (call : RunCall) (w a : List ℕ) (s : Stores) (l : Lent) (n : ℕ) (e 
   -- `own` was judged
   pub run_refused : (n ≡ 0 → ⊥) → (m : Vm) → m ≡ vm_in w → (own : ℕ) → Says own (refusal_of (run_answer call m s l)) → (k : ℕ)
       → k ≡ crossed at_entry n own → RunThrough call w a s l (record { number = k; vm = w; answer = a }) l
-  unfolding run_coded
+  unfolding run_told
   run_refused z m em own y k ek =
       let r = slices_as w a n own e z in
       record {

@@ -8,10 +8,13 @@ use Rattle.model.specs.Basics.{written}
 use Rattle.model.specs.Values.{kind, payload}
 use Rattle.embed_words.specs.Coding.{Coded, refused, told_coded, shown_coded, headed_coded}
 
--- the words of what is told go to the answer, and a refusal writes nothing
+-- the words of what is told go to the answer, and a refusal, of any kind that has a number, writes nothing
+abbrev pub words_told : {A E : Type 0} → (words : A → List ℕ) → (number : E → ℕ) → Result A E → List ℕ → List ℕ → Coded
+words_told words number (Ok x) w a = record { number = 0; vm = w; answer = written a 0 (words x) }
+words_told words number (Err e) w a = refused (number e) w a
+
 abbrev pub words_coded : {A : Type 0} → (A → List ℕ) → Result A Refusal → List ℕ → List ℕ → Coded
-words_coded words (Ok x) w a = record { number = 0; vm = w; answer = written a 0 (words x) }
-words_coded words (Err e) w a = refused (refusal_number e) w a
+words_coded words = words_told words refusal_number
 
 pub told_is : (x : Result ℕ Refusal) (w a : List ℕ) → told_coded x w a ≡ words_coded (λ n. n ∷ []) x w a
 unfolding told_coded

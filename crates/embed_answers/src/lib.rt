@@ -1,17 +1,71 @@
 // The entries' answers as words in lent slices: what an entry tells a host in C.
 #![tactic(auto)]
 
-ghost use Rattle.std.specs.Prelude.{◌≡◌, List, [], ◌∷◌, ℕ, Result, set};
+ghost use Rattle.std.specs.Prelude.{◌≡◌, List, [], ◌∷◌, ℕ, Result, Option, None, set};
+ghost use Rattle.model.specs.Answers.{refusal_number};
 ghost use Rattle.model.specs.Basics.{written};
 ghost use Rattle.model.specs.Values.{kind, payload};
 ghost use Rattle.model.specs.declared.Refusal.{Refusal};
-ghost use Rattle.embed_words.specs.Coding.{Coded, at_entry, at_listing, run_coded, started_coded, changed_coded, unmade, emitted_coded, told_coded, shown_coded, headed_coded, through};
-ghost use Rattle.embed_answers.specs.Telling.{words_coded, told_is, shown_is, headed_is};
+ghost use Rattle.embed_words.specs.Coding.{Coded, at_entry, at_listing, broken_at, run_told, started_told, changed_told, unmade_told, emitted_coded, told_coded, shown_coded, headed_coded, through};
+ghost use Rattle.embed_answers.specs.Telling.{words_told, words_coded, told_is, shown_is, headed_is};
 
 use embed_refusals::{at_entry, at_listing, crossed};
 use embed_words::{put, put_counts, put_vm};
 use model::{Counts, Halt, Header, Refusal, Tally, Value, Vm, answer_number};
 use value::words::{kind_of, payload_of};
+
+// Why an entry refuses, as a host is told it: by a number; and, of an image that breaks a rule (20), by the offset.
+pub trait Refuses: Copy {
+    ghost number_of: { Self → ℕ };
+
+    ghost offset_of: { Self → Option ℕ };
+
+    fn told_number(self) -> u8
+        ensures { result ≡ number_of self };
+
+    fn told_offset(self) -> Option<usize>
+        ensures { result ≡ offset_of self };
+}
+
+// An entry's own refusal.
+impl Refuses for Refusal {
+    ghost number_of = { refusal_number };
+
+    ghost offset_of = { broken_at };
+
+    fn told_number(self) -> u8 {
+        self.number()
+    }
+
+    fn told_offset(self) -> Option<usize> {
+        match self {
+            Refusal::BrokenImage(i) => Some(i),
+            _ => None,
+        }
+    }
+}
+
+// Any number by itself.
+impl Refuses for u8 {
+    ghost number_of = { λ n. n };
+
+    ghost offset_of = { λ n. None };
+
+    fn told_number(self) -> u8 {
+        self
+    }
+
+    fn told_offset(self) -> Option<usize> {
+        None
+    }
+}
+
+// The number that a host is told, whatever it is.
+fn number_told<E: Refuses>(e: E) -> u32
+    ensures { result ≡ E.number_of e }
+{
+    u32::from(e.told_number())
+}
 
 // What a part of a run came to, what the run did, and two words more.
 #[tactic(auto, unfolding(model::specs::Basics::written))]
@@ -26,9 +80,9 @@ fn put_run(answer: &mut [u64], outcome: u64, did: Tally, a: u64, b: u64)
 }
 
 // What a part of a run answers.
-#[tactic(auto, unfolding(embed_words::specs::Coding::run_coded, embed_words::specs::Coding::run_words))]
-pub fn tell_run(res: Result<Halt, Refusal>, vm: &mut [u64], answer: &mut [u64]) -> u32
-    ensures { record { number = result; vm = vm.new; answer = answer.new } ≡ run_coded res vm.old answer.old }
+#[tactic(auto, unfolding(embed_words::specs::Coding::run_told, embed_words::specs::Coding::run_words))]
+pub fn tell_run<E: Refuses>(res: Result<Halt, E>, vm: &mut [u64], answer: &mut [u64]) -> u32
+    ensures { record { number = result; vm = vm.new; answer = answer.new } ≡ run_told E.number_of res vm.old answer.old }
 {
     match res {
         Ok(Halt::Value(m, v, did)) => {
@@ -55,7 +109,7 @@ pub fn tell_run(res: Result<Halt, Refusal>, vm: &mut [u64], answer: &mut [u64]) 
             put_run(answer, 4, did, 0, 0);
             0
         }
-        Err(e) => u32::from(e.number()),
+        Err(e) => number_told(e),
     }
 }
 
@@ -69,42 +123,47 @@ fn tell_broken(i: usize, answer: &mut [u64]) -> u32
 }
 
 // What making a machine answers.
-#[tactic(auto, unfolding(embed_words::specs::Coding::started_coded, model::specs::Basics::written))]
-pub fn tell_started(res: Result<Vm, Refusal>, vm: &mut [u64], answer: &mut [u64]) -> u32
-    ensures { record { number = result; vm = vm.new; answer = answer.new } ≡ started_coded res vm.old answer.old }
+#[tactic(auto, unfolding(embed_words::specs::Coding::started_told, model::specs::Basics::written))]
+pub fn tell_started<E: Refuses>(res: Result<Vm, E>, vm: &mut [u64], answer: &mut [u64]) -> u32
+    ensures { record { number = result; vm = vm.new; answer = answer.new } ≡ started_told E.number_of E.offset_of res vm.old answer.old }
 {
     match res {
         Ok(m) => {
             put_vm(m, vm);
             0
         }
-        Err(Refusal::BrokenImage(i)) => tell_broken(i, answer),
-        Err(e) => u32::from(e.number()),
+        Err(e) => match e.told_offset() {
+            Some(i) => tell_broken(i, answer),
+            None => number_told(e),
+        },
     }
 }
 
 // The same where the record refuses: a broken image comes before a record or an answer that is too short. vm is any record.
-#[tactic(auto, unfolding(embed_words::specs::Coding::unmade, embed_words::specs::Coding::started_coded, model::specs::Basics::written))]
-pub fn tell_unmade(why: u32, res: Result<Vm, Refusal>, answer: &mut [u64]) -> u32
-    ensures { (w : List ℕ) → record { number = result; vm = w; answer = answer.new } ≡ unmade why res w answer.old }
+#[tactic(auto, unfolding(embed_words::specs::Coding::unmade_told, model::specs::Basics::written))]
+pub fn tell_unmade<E: Refuses>(why: u32, res: Result<Vm, E>, answer: &mut [u64]) -> u32
+    ensures { (w : List ℕ) → record { number = result; vm = w; answer = answer.new } ≡ unmade_told E.offset_of why res w answer.old }
 {
     match res {
-        Err(Refusal::BrokenImage(offset)) if why == 17 => tell_broken(offset, answer),
-        _ => why,
+        Ok(_) => why,
+        Err(e) => match e.told_offset() {
+            Some(offset) if why == 17 => tell_broken(offset, answer),
+            _ => why,
+        },
     }
 }
 
 // What changing the setting answers. It tells nothing besides: the answer is any.
-#[tactic(auto, unfolding(embed_words::specs::Coding::changed_coded))]
-pub fn tell_changed(res: Result<Vm, Refusal>, vm: &mut [u64]) -> u32
-    ensures { (a : List ℕ) → record { number = result; vm = vm.new; answer = a } ≡ changed_coded res vm.old a }
+#[tactic(auto, unfolding(embed_words::specs::Coding::changed_told))]
+pub fn tell_changed<E: Refuses>(res: Result<Vm, E>, vm: &mut [u64]) -> u32
+    ensures { (a : List ℕ) → record { number = result; vm = vm.new; answer = a } ≡ changed_told E.number_of res vm.old a }
 {
     match res {
         Ok(m) => {
             put_vm(m, vm);
             0
         }
-        Err(e) => u32::from(e.number()),
+        Err(e) => number_told(e),
     }
 }
 
@@ -186,15 +245,15 @@ impl Telling for Header {
 }
 
 // What such an entry answers; vm is any record.
-pub fn tell<T: Telling>(res: Result<T, Refusal>, answer: &mut [u64]) -> u32
-    ensures { (w : List ℕ) → record { number = result; vm = w; answer = answer.new } ≡ T.coded res w answer.old }
+pub fn tell<T: Telling, E: Refuses>(res: Result<T, E>, answer: &mut [u64]) -> u32
+    ensures { (w : List ℕ) → record { number = result; vm = w; answer = answer.new } ≡ words_told T.words E.number_of res w answer.old }
 {
     match res {
         Ok(told) => {
             told.put_words(answer);
             0
         }
-        Err(e) => u32::from(e.number()),
+        Err(e) => number_told(e),
     }
 }
 

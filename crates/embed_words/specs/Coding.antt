@@ -137,6 +137,19 @@ pub record Coded : Type 0 where
 abbrev pub refused : ℕ → List ℕ → List ℕ → Coded
 refused n w a = record { number = n; vm = w; answer = a }
 
+-- but of an image that breaks a rule (20) the answer is the offset
+abbrev pub refused_at : (offset : Option ℕ) → (number : ℕ) → List ℕ → List ℕ → Coded
+refused_at None n w a = refused n w a
+refused_at (Some i) n w a = record { number = 20; vm = w; answer = written a 0 (i ∷ []) }
+
+-- the offset of a refusal, where it tells one
+abbrev pub broken_at : Refusal → Option ℕ
+broken_at (reason.BrokenImage i) = Some i
+broken_at e = None
+
+-- What is told of a run, and of a machine that is made or changed, is told of any refusal E that has a number (`.._told`); of an entry's own refusal
+-- (`.._coded`) it is the number of document 01.
+
 -- 1 value, 2 "continue", 3 fault, 4 paused; the units spent; the root Returns completed; the value's kind and payload, or the fault's number and the length
 -- of its backtrace
 unfoldable pub run_words : Result Halt Refusal → List ℕ
@@ -146,23 +159,30 @@ run_words (Ok (r.Fault m n t j)) = 3 ∷ t.spent ∷ t.returns ∷ n ∷ j ∷ [
 run_words (Ok (r.Paused m)) = 4 ∷ m.run.spent ∷ m.run.returns ∷ 0 ∷ 0 ∷ []
 run_words (Err e) = []
 
-unfoldable pub run_coded : Result Halt Refusal → List ℕ → List ℕ → Coded
-run_coded (Ok (r.Value m v t)) w a = record { number = 0; vm = written w 0 (vm_words m); answer = written a 0 (run_words (Ok (r.Value m v t))) }
-run_coded (Ok (r.Continue m t)) w a = record { number = 0; vm = written w 0 (vm_words m); answer = written a 0 (run_words (Ok (r.Continue m t))) }
-run_coded (Ok (r.Fault m n t j)) w a = record { number = 0; vm = written w 0 (vm_words m); answer = written a 0 (run_words (Ok (r.Fault m n t j))) }
-run_coded (Ok (r.Paused m)) w a = record { number = 0; vm = written w 0 (vm_words m); answer = written a 0 (run_words (Ok (r.Paused m))) }
-run_coded (Err e) w a = refused (refusal_number e) w a
+unfoldable pub run_told : {E : Type 0} → (number : E → ℕ) → Result Halt E → List ℕ → List ℕ → Coded
+run_told number (Ok (r.Value m v t)) w a = record { number = 0; vm = written w 0 (vm_words m); answer = written a 0 (run_words (Ok (r.Value m v t))) }
+run_told number (Ok (r.Continue m t)) w a = record { number = 0; vm = written w 0 (vm_words m); answer = written a 0 (run_words (Ok (r.Continue m t))) }
+run_told number (Ok (r.Fault m n t j)) w a = record { number = 0; vm = written w 0 (vm_words m); answer = written a 0 (run_words (Ok (r.Fault m n t j))) }
+run_told number (Ok (r.Paused m)) w a = record { number = 0; vm = written w 0 (vm_words m); answer = written a 0 (run_words (Ok (r.Paused m))) }
+run_told number (Err e) w a = refused (number e) w a
 
--- of refusal 20 the answer is the offset
-unfoldable pub started_coded : Result Vm Refusal → List ℕ → List ℕ → Coded
-started_coded (Ok m) w a = record { number = 0; vm = written w 0 (vm_words m); answer = a }
-started_coded (Err (reason.BrokenImage i)) w a = record { number = refusal_number (reason.BrokenImage i); vm = w; answer = written a 0 (i ∷ []) }
-started_coded (Err e) w a = refused (refusal_number e) w a
+abbrev pub run_coded : Result Halt Refusal → List ℕ → List ℕ → Coded
+run_coded = run_told refusal_number
+
+unfoldable pub started_told : {E : Type 0} → (number : E → ℕ) → (offset : E → Option ℕ) → Result Vm E → List ℕ → List ℕ → Coded
+started_told number offset (Ok m) w a = record { number = 0; vm = written w 0 (vm_words m); answer = a }
+started_told number offset (Err e) w a = refused_at (offset e) (number e) w a
+
+abbrev pub started_coded : Result Vm Refusal → List ℕ → List ℕ → Coded
+started_coded = started_told refusal_number broken_at
 
 -- changing the setting tells nothing besides
-unfoldable pub changed_coded : Result Vm Refusal → List ℕ → List ℕ → Coded
-changed_coded (Ok m) w a = record { number = 0; vm = written w 0 (vm_words m); answer = a }
-changed_coded (Err e) w a = refused (refusal_number e) w a
+unfoldable pub changed_told : {E : Type 0} → (number : E → ℕ) → Result Vm E → List ℕ → List ℕ → Coded
+changed_told number (Ok m) w a = record { number = 0; vm = written w 0 (vm_words m); answer = a }
+changed_told number (Err e) w a = refused (number e) w a
+
+abbrev pub changed_coded : Result Vm Refusal → List ℕ → List ℕ → Coded
+changed_coded = changed_told refusal_number
 
 -- the counts to the record, and the number that was told
 unfoldable pub emitted_coded : Result (Counts × ℕ) Refusal → List ℕ → List ℕ → Coded
@@ -227,10 +247,16 @@ pub record RunThrough (call : RunCall) (w a : List ℕ) (s : Stores) (l : Lent) 
 
 -- making a machine where the record refuses, or it or the answer is too short. "Loading: 20, 17, 22, 21" and "25 first": a broken image comes before 17,
 -- and its offset is written where the answer has a word
-unfoldable pub unmade : ℕ → Result Vm Refusal → List ℕ → List ℕ → Coded
-unmade why (Ok m) w a = refused why w a
-unmade why (Err (reason.BrokenImage i)) w a = if eqb why 17 then started_coded (Err (reason.BrokenImage i)) w a else refused why w a
-unmade why (Err e) w a = refused why w a
+unfoldable pub unmade_told : {E : Type 0} → (offset : E → Option ℕ) → ℕ → Result Vm E → List ℕ → List ℕ → Coded
+unmade_told offset why (Ok m) w a = refused why w a
+unmade_told offset why (Err e) w a = unmade_at (offset e)
+  where
+    unmade_at : Option ℕ → Coded
+    unmade_at None = refused why w a
+    unmade_at (Some i) = if eqb why 17 then refused_at (Some i) why w a else refused why w a
+
+abbrev pub unmade : ℕ → Result Vm Refusal → List ℕ → List ℕ → Coded
+unmade = unmade_told broken_at
 
 -- making a machine; r is what the entry itself does where no run is under way
 pub record StartThrough : Type 0 where

@@ -13,7 +13,7 @@ use Rattle.model.specs.Basics.{written}
 use Rattle.model.specs.Stores.{Stores}
 use Rattle.model.specs.Loading.{OutRes}
 use Rattle.model.specs.Machines.{Lent, under_in, progress_in, run_order, answer_in, Left}
-use Rattle.embed_words.specs.Coding.{vm_in, vm_words, record_ok, FineLast, TypedLast, Coded, run_words, run_coded, started_coded, changed_coded, emitted_coded, told_coded, shown_coded, headed_coded}
+use Rattle.embed_words.specs.Coding.{vm_in, vm_words, record_ok, FineLast, TypedLast, Coded, run_words, run_coded, run_told, started_coded, started_told, changed_coded, changed_told, emitted_coded, told_coded, shown_coded, headed_coded}
 use Rattle.embed_words.proofs.Back.{record_back}
 use Rattle.demands.specs.Host.{counted, replaced, with_setting, vm_after, Answer, ran, emitted, started, changed, told, put, shown, headed}
 use Rattle.demands.specs.Refusals.{refused_by}
@@ -45,13 +45,13 @@ module _ (w a : List ℕ) where
   emitted_as_lem l (Err e) = record { machine = refl; taken = λ ok. ok; number = refl; words = refl; kept = λ i y. refl }
 
   pub started_as_lem : 17 ≤ length w → (x : Result Vm Refusal) → ((m : Vm) → x ≡ Ok m → FineLast m.last) → CodedAs w a (started x) (replaced (vm_in w) x) (started_coded x w a)
-  unfolding started_coded written
+  unfolding started_told written
   started_as_lem l (Ok m) f = let z = record_back w m l (f m refl) in record { machine = z.machine; taken = λ ok. z.taken; number = refl; words = refl; kept = λ i y. not_refused y }
   started_as_lem l (Err (why.BrokenImage i)) f = record { machine = refl; taken = λ ok. ok; number = refl; words = refl; kept = λ i y. refl }
   started_as_lem l (Err e) f = record { machine = refl; taken = λ ok. ok; number = refl; words = refl; kept = λ i y. refl }
 
   pub changed_as : 17 ≤ length w → (x : Result Vm Refusal) → ((m : Vm) → x ≡ Ok m → FineLast m.last) → CodedAs w a (changed x) (with_setting (vm_in w) x) (changed_coded x w a)
-  unfolding changed_coded written
+  unfolding changed_told written
   changed_as l (Ok m) f = let z = record_back w m l (f m refl) in record { machine = z.machine; taken = λ ok. z.taken; number = refl; words = refl; kept = λ i y. not_refused y }
   changed_as l (Err e) f = record { machine = refl; taken = λ ok. ok; number = refl; words = refl; kept = λ i y. refl }
 
@@ -82,7 +82,7 @@ module _ (w a : List ℕ) (long : 17 ≤ length w) (s : Stores) (l l' : Lent) wh
       record { machine = ap vm_in ev ∙ z.machine; taken = λ ok. ap record_ok ev ∙ z.taken; number = en; words = ea; kept = λ i y. not_refused (sym er ∙ y) }
 
   pub ran_as : (x : Result Halt Refusal) → Left s l x l' → TypedLast (vm_after (vm_in w) x).last → CodedAs w a (ran (answer_in l' x)) (vm_after (vm_in w) x) (run_coded x w a)
-  unfolding run_coded run_words answer_in under_in progress_in written
+  unfolding run_told run_words answer_in under_in progress_in written
   ran_as (Ok (r.Value m v n)) y t = left_as m _ _ y.order t refl refl refl refl
   ran_as (Ok (r.Continue m n)) y t = left_as m _ _ y.order t refl refl refl refl
   ran_as (Ok (r.Fault m k n j)) y t = left_as m _ _ y.order t refl refl refl (rw (length_entries j 0 l'.backtrace))

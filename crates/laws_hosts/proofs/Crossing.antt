@@ -16,7 +16,7 @@ use Rattle.model.specs.Stores.{Stores}
 use Rattle.model.specs.Emission.{Res, new_of}
 use Rattle.model.specs.Loading.{OutRes, load_of}
 use Rattle.model.specs.Machines.{RunCall, answer_in, RunPost, set_strict as setStrictOf, run_order, Lent, StartRes, fresh, start_with, as_loaded, unless_running, load_machine_of, new_machine_of}
-use Rattle.embed_words.specs.Coding.{vm_in, run_in, record_ok, FineLast, TypedLast, slices_refusal, value_refusal, under_way, out_refusal, Coded, refused, started_coded, changed_coded, emitted_coded, told_coded, through, emit_through, out_through, unmade, start_through}
+use Rattle.embed_words.specs.Coding.{vm_in, run_in, record_ok, FineLast, TypedLast, slices_refusal, value_refusal, under_way, out_refusal, Coded, refused, started_coded, started_told, changed_coded, emitted_coded, told_coded, through, emit_through, out_through, unmade, unmade_told, start_through}
 use Rattle.embed_words.proofs.Back.{record_back}
 use Rattle.embed_refusals.proofs.Refusals.{slices_fit, value_exact}
 use Rattle.demands.specs.Host.{Held, with_frames, emits, starts, changes, looks, vm_after, done, Ask, new, load, add_op, add_op1, add_op2, add_op3, patch, add_constant, add_struct, begin_function, end_function, set_strict, current_offset, function_idx, save, disassemble, backtrace, last_result, stack_value, block_header, element, text_bytes, Call, run, ask, Answer, ran, emitted, started, changed, told, put, shown, headed, RanBy, After}
@@ -114,7 +114,7 @@ none_made e = absurd (let z : ◌≡◌ {A = ℕ} 0 1 = cc in let y : ⊥ = omeg
 
 -- what the record refuses where a run is under way
 pub unmade_25 : (x : Result Vm Refusal) (w a : List ℕ) → unmade 25 x w a ≡ refused 25 w a
-unfolding unmade
+unfolding unmade_told
 unmade_25 (Ok m) w a = refl
 unmade_25 (Err (why.BrokenImage i)) w a = refl
 unmade_25 (Err e) w a = refl
@@ -126,7 +126,7 @@ module _ (a : List ℕ) (g : CHeld) (long : 17 ≤ length g.words) (room : 1 ≤
 
   start_crosses : (q : Ask) → [] ≡ (way_of (ask q)).out → (x : StartRes) → ((m : Vm) → x.answer ≡ Ok m → FineLast m.last) → (on : Bool) → (vm_in g.words).run.on ≡ on
       → done q (held_in g) ≡ starts (held_in g) (unless_running on g.stores g.lent.frames x) → Crosses (ask q) a g (making a g x)
-  unfolding making start_through starts unless_running started_coded
+  unfolding making start_through starts unless_running started_told
   start_crosses q eo x f true o e =
       let d : CDone = record { coded = refused 25 g.words a; out = []; stores = g.stores; lent = g.lent } in
       let y = started_as_lem g.words a long (Err why.RunUnderWay) (λ m i. none_made i) in
@@ -137,7 +137,7 @@ module _ (a : List ℕ) (g : CHeld) (long : 17 ≤ length g.words) (room : 1 ≤
 
   -- and where it is made, the words are a record whatever they were
   started_taken : (x : Result Vm Refusal) → ((m : Vm) → x ≡ Ok m → FineLast m.last) → refused_in x ≡ none → record_ok (started_coded x g.words a).vm ≡ true
-  unfolding started_coded
+  unfolding started_told
   started_taken (Ok m) f e = (record_back g.words m long (f m refl)).taken
   started_taken (Err r) f e = absurd (let z : ◌≡◌ {A = ℕ} 0 1 = cc in let y : ⊥ = omega arith in y)
 

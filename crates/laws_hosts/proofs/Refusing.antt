@@ -16,7 +16,7 @@ use Rattle.model.specs.Machines.{RunCall, run_answer, refusal_of}
 use Rattle.model.specs.declared.Vm.{Vm}
 use Rattle.model.specs.declared.Value.{Value}
 use Rattle.value.proofs.Coding.{exact_kind, exact_payload}
-use Rattle.embed_words.specs.Coding.{vm_in, record_ok, slices_refusal, value_refusal, at_entry, among, crossed, Coded, refused, through, emit_through, out_through, run_coded}
+use Rattle.embed_words.specs.Coding.{vm_in, record_ok, slices_refusal, value_refusal, at_entry, among, crossed, Coded, refused, through, emit_through, out_through, run_told}
 use Rattle.embed_refusals.proofs.Refusals.{no_record, value_exact, value_inexact}
 use Rattle.demands.specs.Host.{Held, Ask, new, load, add_op, add_op1, add_op2, add_op3, patch, add_constant, add_struct, begin_function, end_function, set_strict, current_offset, function_idx, save, disassemble, backtrace, last_result, stack_value, block_header, element, text_bytes, Call, run, ask}
 use Rattle.demands.specs.Jobs.{is_makes, job_of, anew}
@@ -133,7 +133,7 @@ module _ (a : List ℕ) (g : CHeld) where
     ask_not (text_bytes x out) e = put_not (text_bytes x out) _ _ (none_valued x 1) out refl _
 
     run_not : (c : RunCall) {d : CDone} → RanThrough c a g d → NotTaken (run c) a g d
-    unfolding run_coded
+    unfolding run_told
     run_not c {d} t =
         let z = none_taken 5 in
         let why : slices_refusal g.words 5 a ≡ 0 → ⊥ = λ e. omega (arith, z, e) in

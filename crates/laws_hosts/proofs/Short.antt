@@ -19,7 +19,7 @@ use Rattle.model.specs.Images.{Judged, fine, broken, judge}
 use Rattle.model.specs.Programs.{within_limits}
 use Rattle.model.specs.Loading.{OutRes, LoadRes, room_for, load_judged, load_of}
 use Rattle.model.specs.Machines.{RunCall, RunAnswer, ran as answered, refused as not_run, run_answer, StartRes, start_with, unless_running, as_loaded, load_machine_of, new_machine_of, refusal_of}
-use Rattle.embed_words.specs.Coding.{vm_in, run_in, slices_refusal, value_refusal, under_way, out_refusal, at_entry, among, crossed, Coded, refused, run_coded, started_coded, through, emit_through, out_through, unmade, start_through}
+use Rattle.embed_words.specs.Coding.{vm_in, run_in, slices_refusal, value_refusal, under_way, out_refusal, at_entry, among, crossed, Coded, refused, run_told, started_told, through, emit_through, out_through, unmade, unmade_told, start_through}
 use Rattle.embed_refusals.proofs.Refusals.{answer_short, value_exact}
 use Rattle.demands.specs.Host.{Held, Done, emits, starts, looks, done, Ask, new, load, add_op, add_op1, add_op2, add_op3, patch, add_constant, add_struct, begin_function, end_function, set_strict, current_offset, function_idx, save, disassemble, backtrace, last_result, stack_value, block_header, element, text_bytes, Call, run, ask, Answer, started, told, put, shown, headed}
 use Rattle.demands.specs.Refusals.{refused_by, refused_run, checks}
@@ -109,7 +109,7 @@ new_late s = if_all (λ (x : Res). LateLoaded (as_loaded x.answer)) (leb 6 (plac
 
 -- with no word for an offset
 short_made : (x : Result Vm Refusal) → LateStarted x → (w : List ℕ) → unmade 17 x w [] ≡ refused (crossed (25 ∷ 20 ∷ []) 17 (number_of (refused_by (started x)))) w []
-unfolding unmade started_coded written crossed among
+unfolding unmade_told started_told written crossed among
 short_made (Ok m) l w = refl
 short_made (Err (why.BrokenImage i)) l w = refl
 short_made (Err why.RunUnderWay) l w = absurd (let z : ◌≡◌ {A = ℕ} 0 1 = cc in let y : ⊥ = omega arith in y)
@@ -191,7 +191,7 @@ module _ (a : List ℕ) (g : CHeld) (ok : Taken g) where
   ask_short (text_bytes x out) i l = put_short a g (text_bytes x out) _ refl out refl _ (no_value_fits x i 1 l) _ (rw i.back)
 
   run_short : (c : RunCall) → length a < 5 → {d : CDone} → RanThrough c a g d → Short (run c) a g d
-  unfolding run_coded
+  unfolding run_told
   run_short c l {d} t =
       let z = none_fits 5 l in
       let why : slices_refusal g.words 5 a ≡ 0 → ⊥ = λ e. omega (arith, z, e) in
